@@ -1,0 +1,3 @@
+pub mod Series
+pub mod Rational
+pub mod Cisi

@@ -1,0 +1,45 @@
+-- Worked examples, computed: document 01's `i(12345, 4)` and its listing's -5565; roundings and readings where another rule shows.
+use mathlib.Core.Path.{_≡_, refl}
+use mathlib.Core.List.{[], _∷_}
+use lib.IntN.{pos, negsuc}
+use lib.Ieee.{binary32, ofBits, round}
+use Rattle.output.specs.declared.rounding.Hundredths.the-variants.{Whole}
+use Rattle.output.specs.declared.reading.Decimal.the-variants.{Value}
+use Rattle.output.specs.Field.{spelled, decimal, text, justified, integerField}
+use Rattle.output.specs.Hundredths.{hundredthsOf, printed, hundredthsField}
+use Rattle.output.specs.Digits.{spacesOf, readOn, digitsOf, unspaced, signedOf}
+use Rattle.output.specs.Decimal.{tenThousandths, pointed, decimalOf}
+
+-- `****`
+pub too-long : integerField (pos 12345) 4 ≡ 42 ∷ 42 ∷ 42 ∷ 42 ∷ []
+unfolding integerField justified text decimal spelled
+too-long = refl
+
+-- -55.646202: `  -5565`
+pub ground : hundredthsField (ofBits binary32 0xc25e95b6) 7 ≡ 32 ∷ 32 ∷ 45 ∷ 53 ∷ 53 ∷ 54 ∷ 53 ∷ []
+unfolding hundredthsField printed hundredthsOf integerField justified text decimal spelled ofBits
+ground = refl
+
+-- the f32 nearest to 0.005 is below it; 100 times it in f32 would be 0.5
+pub below-half : hundredthsOf (ofBits binary32 0x3ba3d70a) ≡ Whole (pos 0)
+unfolding hundredthsOf ofBits
+below-half = refl
+
+-- 0.125 and -0.125: halves go away from zero
+pub half : hundredthsOf (ofBits binary32 0x3e000000) ≡ Whole (pos 13)
+unfolding hundredthsOf ofBits
+half = refl
+
+pub minus-half : hundredthsOf (ofBits binary32 0xbe000000) ≡ Whole (negsuc 12)
+unfolding hundredthsOf ofBits
+minus-half = refl
+
+-- `  1000.0001` is above 1000
+pub above-1000 : decimalOf (32 ∷ 32 ∷ 49 ∷ 48 ∷ 48 ∷ 48 ∷ 46 ∷ 48 ∷ 48 ∷ 48 ∷ 49 ∷ []) ≡ Value (ofBits binary32 0x447a0002)
+unfolding decimalOf pointed tenThousandths signedOf unspaced digitsOf readOn spacesOf round ofBits
+above-1000 = refl
+
+-- `    -0.0000` is zero, not minus zero
+pub minus-zero : decimalOf (32 ∷ 32 ∷ 32 ∷ 32 ∷ 45 ∷ 48 ∷ 46 ∷ 48 ∷ 48 ∷ 48 ∷ 48 ∷ []) ≡ Value (ofBits binary32 0)
+unfolding decimalOf pointed tenThousandths signedOf unspaced digitsOf readOn spacesOf round ofBits
+minus-zero = refl

@@ -1,0 +1,11 @@
+pub mod Signs
+pub mod Field
+pub mod Exact
+pub mod Answers
+pub mod Printed
+pub mod Steps
+pub mod Round
+pub mod Sizes
+pub mod Parts
+pub mod Examples
+pub mod ReadBack

@@ -1,0 +1,38 @@
+use mathlib.Core.Path.{refl}
+use Prim.Native.Nat.{_-_}
+use native.Mathlib.Omega.{arith}
+use borrow.Author.Needs.{needs}
+use Rattle.output.proofs.Field.{Filled, fill-step, fill-ends}
+use lib.ListN.{length}
+use Rattle.output.proofs.writing.fill.Statement.{statement}
+use Rattle.output.proofs.writing.fill.Tie as tie
+
+abbrev Inv-loop : tie.InvT-loop
+Inv-loop out₀ b i₀ out i = Filled b out₀ out i
+
+abbrev μ-loop : tie.MeasureT-loop
+μ-loop out₀ b i₀ out i = length out₀ - i
+
+loop-holds : tie.Need-loop-holds Inv-loop μ-loop
+loop-holds c = record { low = omega arith; long = refl; is = refl }
+
+slice-write-out : tie.Need-slice-write-out Inv-loop μ-loop
+slice-write-out c = search needs
+
+add-i : tie.Need-add-i Inv-loop μ-loop
+add-i c = omega arith
+
+loop-less : tie.Need-loop-less Inv-loop μ-loop
+loop-less c = omega arith
+
+loop-again : tie.Need-loop-again Inv-loop μ-loop
+loop-again c = fill-step _ _ _ _ (c .before .loop .inv) (c .loop-test .taken)
+
+same-length : tie.Need-same-length Inv-loop μ-loop
+same-length c = search needs
+
+returns : tie.Need-returns Inv-loop μ-loop
+returns c = fill-ends _ _ _ _ (c .before .loop .inv) (c .loop-test .left)
+
+pub fill-spec : {M : Type 1} → statement M
+fill-spec = tie.close (tie.spec Inv-loop μ-loop loop-holds slice-write-out add-i loop-less loop-again same-length returns)

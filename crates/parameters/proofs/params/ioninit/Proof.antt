@@ -1,0 +1,165 @@
+use Prim.Native.Nat.{ℕ}
+use mathlib.Core.Path.{_≡_, refl, sym, ap, _∙_}
+use mathlib.Core.Bool.{false}
+use borrow.Author.Needs.{needs}
+use borrow.Author.Tests.{ne-eqb}
+use lib.IntN.{ℤ, pos, negsuc}
+use mir.Syntax.{w32}
+use mir.Val.{ofZ, toZ}
+use mir.Facts.{toZ-ofZ}
+use lib.Ieee.{round, ofBits}
+use Rattle.parameters.specs.Params.{isType, ioninitOf}
+use Rattle.parameters.proofs.params.ioninit.Statement.{statement}
+use Rattle.parameters.proofs.params.ioninit.Tie as tie
+
+-- a match on an i32 compares the pattern of its 32 bits
+no-type : (k : ℤ) (n : ℕ) → (ofZ w32 k ≡ n → ⊥) → isType k n ≡ false
+unfolding isType
+no-type (pos k) n h = ne-eqb k n h
+no-type (negsuc k) n h = refl
+
+is-type : (s : tie.Start) {n : ℕ} → ofZ w32 (s .args .index) ≡ n → s .args .index ≡ toZ w32 n
+is-type s e = sym (toZ-ofZ (search needs)) ∙ ap (toZ w32) e
+
+element-copy-out-s6 : tie.Need-element-copy-out-s6
+element-copy-out-s6 c = search needs
+
+element-copy-out-s7 : tie.Need-element-copy-out-s7
+element-copy-out-s7 c = search needs
+
+element-copy-out-s8 : tie.Need-element-copy-out-s8
+element-copy-out-s8 c = search needs
+
+element-copy-out-s9 : tie.Need-element-copy-out-s9
+element-copy-out-s9 c = search needs
+
+element-copy-out-s10 : tie.Need-element-copy-out-s10
+element-copy-out-s10 c = search needs
+
+element-copy-out-s11 : tie.Need-element-copy-out-s11
+element-copy-out-s11 c = search needs
+
+element-copy-out-s12 : tie.Need-element-copy-out-s12
+element-copy-out-s12 c = search needs
+
+params-requires : tie.Need-params-requires
+params-requires c κs = search needs
+
+params-requires-2 : tie.Need-params-requires-2
+params-requires-2 c κs = search needs
+
+params-requires-3 : tie.Need-params-requires-3
+params-requires-3 c κs = search needs
+
+params-requires-4 : tie.Need-params-requires-4
+params-requires-4 c κs = search needs
+
+params-requires-5 : tie.Need-params-requires-5
+params-requires-5 c κs = search needs
+
+params-requires-6 : tie.Need-params-requires-6
+params-requires-6 c κs = search needs
+
+params-requires-7 : tie.Need-params-requires-7
+params-requires-7 c κs = search needs
+
+params-requires-8 : tie.Need-params-requires-8
+params-requires-8 c κs = search needs
+
+params-requires-9 : tie.Need-params-requires-9
+params-requires-9 c κs = search needs
+
+params-requires-10 : tie.Need-params-requires-10
+params-requires-10 c κs = search needs
+
+params-requires-11 : tie.Need-params-requires-11
+params-requires-11 c κs = search needs
+
+returns : tie.Need-returns
+unfolding ioninitOf isType round ofBits
+returns c = rw (is-type (c .before .before .before .before .before .before .before .before .before) (c .before .match .keys1)) (c .params .ensures)
+
+returns-2 : tie.Need-returns-2
+unfolding ioninitOf isType round ofBits
+returns-2 c = rw (is-type (c .before .before .before .before .before .before .before .before .before) (c .before .match .keys2)) (c .params2 .ensures)
+
+returns-3 : tie.Need-returns-3
+unfolding ioninitOf isType round ofBits
+returns-3 c = rw (is-type (c .before .before .before .before .before .before .before .before .before) (c .before .match .keys3)) (c .params3 .ensures)
+
+returns-4 : tie.Need-returns-4
+unfolding ioninitOf isType round ofBits
+returns-4 c = rw (is-type (c .before .before .before .before .before .before .before .before .before) (c .before .match .keys4)) (c .params4 .ensures)
+
+returns-5 : tie.Need-returns-5
+unfolding ioninitOf isType round ofBits
+returns-5 c = rw (is-type (c .before .before .before .before .before .before .before .before .before) (c .before .match .keys5)) (c .params5 .ensures)
+
+returns-6 : tie.Need-returns-6
+unfolding ioninitOf isType round ofBits
+returns-6 c = rw (is-type (c .before .before .before .before .before .before .before .before .before) (c .before .match .keys6)) (c .params6 .ensures)
+
+returns-7 : tie.Need-returns-7
+unfolding ioninitOf isType round ofBits
+returns-7 c = rw (is-type (c .before .before .before .before .before .before .before .before .before) (c .before .match .keys7)) (c .params7 .ensures)
+
+returns-8 : tie.Need-returns-8
+unfolding ioninitOf isType round ofBits
+returns-8 c = rw (is-type (c .before .before .before .before .before .before .before .before .before) (c .before .match .keys8)) (c .params8 .ensures)
+
+returns-9 : tie.Need-returns-9
+unfolding ioninitOf isType round ofBits
+returns-9 c = rw (is-type (c .before .before .before .before .before .before .before .before .before) (c .before .match .keys9)) (c .params9 .ensures)
+
+returns-10 : tie.Need-returns-10
+unfolding ioninitOf isType round ofBits
+returns-10 c = rw (is-type (c .before .before .before .before .before .before .before .before .before) (c .before .match .keys10)) (c .params10 .ensures)
+
+returns-11 : tie.Need-returns-11
+unfolding ioninitOf round ofBits
+returns-11 c = let r = c .before .match .rest in rw (
+  no-type _ 1 (r .0 .0 .0 .0 .0 .0 .0 .0 .0 .1),
+  no-type _ 2 (r .0 .0 .0 .0 .0 .0 .0 .0 .1),
+  no-type _ 3 (r .0 .0 .0 .0 .0 .0 .0 .1),
+  no-type _ 4 (r .0 .0 .0 .0 .0 .0 .1),
+  no-type _ 5 (r .0 .0 .0 .0 .0 .1),
+  no-type _ 6 (r .0 .0 .0 .0 .1),
+  no-type _ 7 (r .0 .0 .0 .1),
+  no-type _ 8 (r .0 .0 .1),
+  no-type _ 9 (r .0 .1),
+  no-type _ 10 (r .1),
+) (c .params11 .ensures)
+
+pub ioninit-spec : {M : Type 1} → statement M
+ioninit-spec =
+    tie.close
+    (tie.spec
+    element-copy-out-s6
+    element-copy-out-s7
+    element-copy-out-s8
+    element-copy-out-s9
+    element-copy-out-s10
+    element-copy-out-s11
+    element-copy-out-s12
+    params-requires
+    params-requires-2
+    params-requires-3
+    params-requires-4
+    params-requires-5
+    params-requires-6
+    params-requires-7
+    params-requires-8
+    params-requires-9
+    params-requires-10
+    params-requires-11
+    returns
+    returns-2
+    returns-3
+    returns-4
+    returns-5
+    returns-6
+    returns-7
+    returns-8
+    returns-9
+    returns-10
+    returns-11)

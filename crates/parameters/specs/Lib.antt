@@ -1,0 +1,4 @@
+pub mod Params
+pub mod Length
+pub mod Signed
+pub mod Model

@@ -1,0 +1,11 @@
+pub mod Value
+pub mod Sign
+pub mod Order
+pub mod Compare
+pub mod Digits
+pub mod Difference
+pub mod Exact
+pub mod Units
+pub mod Positive
+pub mod Magnitude
+pub mod Bounded

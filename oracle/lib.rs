@@ -1,0 +1,20 @@
+//! The oracle: the upstream antenna models built over document 01's
+//! elementary functions. See `oracle/README.md`.
+
+pub mod elementary;
+pub mod lists_integrals;
+pub mod lists_output;
+pub mod lists_parameters;
+pub mod splitmix;
+pub mod standins;
+
+// Written by `make-oracle` from the upstream files, with the upstream names.
+// The models need only a part of what these files hold.
+#[allow(dead_code)]
+pub mod antenna;
+#[allow(dead_code)]
+pub mod con;
+pub mod ioncap;
+#[allow(dead_code)]
+pub mod model;
+pub mod output;
