@@ -1,10 +1,14 @@
 //! The oracle: the upstream antenna models built over document 01's
 //! elementary functions. See `oracle/README.md`.
 
+pub mod calls;
 pub mod elementary;
+pub mod lists_dipoles;
 pub mod lists_integrals;
 pub mod lists_output;
 pub mod lists_parameters;
+pub mod lists_rhombics;
+pub mod lists_slopes;
 pub mod splitmix;
 pub mod standins;
 

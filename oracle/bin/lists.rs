@@ -1,14 +1,13 @@
-//! `lists NAME`: prints a fixed list, the same on every run.
-//!
-//! `elementary`: the stand-ins on edges, on the neighbours of their
-//! thresholds and on random arguments. `integrals`: `cisi`. `output`: fields of
-//! a line. `parameters`: `ioninit`, lengths and the curtain's threshold.
-//! README.md gives the form of a line.
+//! `lists NAME`: prints a fixed list, the same on every run. README.md names
+//! the lists and gives the form of a line.
 
 use oracle::elementary::{bits, FUNCTIONS};
+use oracle::lists_dipoles;
 use oracle::lists_integrals;
 use oracle::lists_output;
 use oracle::lists_parameters;
+use oracle::lists_rhombics;
+use oracle::lists_slopes;
 use oracle::splitmix::SplitMix64;
 use std::f64::consts::FRAC_PI_2;
 use std::io::{self, BufWriter, Write};
@@ -27,10 +26,13 @@ fn main() {
     };
     let written = match name.as_str() {
         "elementary" => elementary(&mut BufWriter::new(io::stdout().lock())),
+        "dipoles" => lists_dipoles::write(&mut BufWriter::new(io::stdout().lock())),
         "integrals" => lists_integrals::write(&mut BufWriter::new(io::stdout().lock())),
         "output" => lists_output::write(&mut BufWriter::new(io::stdout().lock())),
         "parameters" => lists_parameters::write(&mut BufWriter::new(io::stdout().lock())),
-        _ => stop("lists: the lists are elementary, integrals, output, parameters"),
+        "rhombics" => lists_rhombics::write(&mut BufWriter::new(io::stdout().lock())),
+        "slopes" => lists_slopes::write(&mut BufWriter::new(io::stdout().lock())),
+        _ => stop("lists: README.md names the lists"),
     };
     if let Err(error) = written {
         stop(&format!("lists: {error}"));

@@ -1,3 +1,4 @@
 pub mod Series
 pub mod Rational
 pub mod Cisi
+pub mod Pair

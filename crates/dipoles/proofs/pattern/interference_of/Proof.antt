@@ -1,0 +1,15 @@
+use lib.Ieee.{round, ofBits}
+use Rattle.dipoles.specs.Pattern.{interference}
+use borrow.Author.Needs.{needs}
+use Rattle.dipoles.proofs.pattern.interference_of.Statement.{statement}
+use Rattle.dipoles.proofs.pattern.interference_of.Tie as tie
+
+cos-requires : tie.Need-cos-requires
+cos-requires c κs = search needs
+
+returns : tie.Need-returns
+unfolding interference round ofBits
+returns c = rw (← c .cos .ensures)
+
+pub interference-of-spec : {M : Type 1} → statement M
+interference-of-spec = tie.close (tie.spec cos-requires returns)

@@ -1,0 +1,25 @@
+use lib.Ieee.{round, ofBits}
+use Rattle.dipoles.specs.Row.{resistance}
+use borrow.Author.Needs.{needs}
+use Rattle.dipoles.proofs.row.resistance_of.Statement.{statement}
+use Rattle.dipoles.proofs.row.resistance_of.Tie as tie
+
+tan-requires : tie.Need-tan-requires
+tan-requires c κs = search needs
+
+ln-requires : tie.Need-ln-requires
+ln-requires c κs = search needs
+
+ln-requires-2 : tie.Need-ln-requires-2
+ln-requires-2 c κs = search needs
+
+returns : tie.Need-returns
+unfolding resistance round ofBits
+returns c = rw (
+  ← c .before .before .before .before .before .before .tan .ensures,
+  ← c .before .before .before .before .before .ln .ensures,
+  ← c .before .before .before .ln2 .ensures,
+)
+
+pub resistance-of-spec : {M : Type 1} → statement M
+resistance-of-spec = tie.close (tie.spec tan-requires ln-requires ln-requires-2 returns)

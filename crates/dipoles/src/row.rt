@@ -1,0 +1,52 @@
+// What holds for a whole row, whatever the azimuth: the phases and the radiation resistance.
+ghost use mathlib.Core.Path.{_≡_};
+ghost use Rattle.dipoles.specs.Row.{resistance, dipoleRow};
+use integrals::IntegralPair;
+use integrals::integral_pair;
+use integrals::Integrals;
+use integrals::Turns;
+
+// `cfac` is the cosine of the leg's phase `fac`, `scale` is 120 over the resistance `xr`, and
+// `hwave2` twice the height's phase.
+pub struct Dipole {
+    pub fac: f32,
+    pub cfac: f32,
+    pub scale: f32,
+    pub hwave2: f32,
+}
+
+pub enum DipoleRow {
+    Settled(Dipole, Turns),
+    Unsettled,
+}
+
+// `xr`, from the integrals at `fac * 4` and at `fac * 2`.
+fn resistance_of(fac: f32, at2kl: Integrals, atkl: Integrals) -> f32
+    ensures { λ r. ⌜ r ≡ resistance fac at2kl atkl ⌝ }
+{
+    let g = 1.0 / elementary::tan(fac);
+    let cin_kl = 0.577 + elementary::ln(2.0 * fac) - atkl.ci;
+    let cin_2kl = 0.577 + elementary::ln(4.0 * fac) - at2kl.ci;
+    let sin2kl = 1.0;
+    30.0 * ((1.0 - g * g) * cin_2kl + 4.0 * g * g * cin_kl + 2.0 * g * (at2kl.si - 2.0 * atkl.si))
+        / sin2kl
+}
+
+pub fn dipole_row(fac: f32, hwave: f32) -> DipoleRow
+    ensures { λ r. ⌜ r ≡ dipoleRow fac hwave ⌝ }
+{
+    let IntegralPair::Settled(at2kl, atkl, turns) = integral_pair(fac * 4.0, fac * 2.0) else {
+        return DipoleRow::Unsettled;
+    };
+    let xr = resistance_of(fac, at2kl, atkl);
+    let cfac = elementary::cos(fac);
+    DipoleRow::Settled(
+        Dipole {
+            fac,
+            cfac,
+            scale: 120.0 / xr,
+            hwave2: 2.0 * hwave,
+        },
+        turns,
+    )
+}

@@ -1,0 +1,12 @@
+use mathlib.Core.Path.{refl}
+use lib.Ieee.{round, ofBits}
+use Rattle.reflection.specs.Angles.{radiansOf}
+use Rattle.reflection.proofs.angles.radians_of.Statement.{statement}
+use Rattle.reflection.proofs.angles.radians_of.Tie as tie
+
+returns : tie.Need-returns
+unfolding radiansOf round ofBits
+returns c = refl
+
+pub radians-of-spec : {M : Type 1} → statement M
+radians-of-spec = tie.close (tie.spec returns)

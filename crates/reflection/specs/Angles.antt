@@ -1,0 +1,21 @@
+-- Document 01 section 4: what `iongain2` takes from the MHz alone, from an angle in degrees, and from the elevation's sine and cosine. Definitions only.
+use lib.Ieee.{Float}
+use Rattle.single.specs.Single.{_⊠_, _⊘_, num}
+use Rattle.elementary.specs.Trigonometric.{sine, cosine}
+use Rattle.reflection.specs.declared.angles.Azimuth.{Azimuth}
+use Rattle.reflection.specs.declared.angles.Elevation.{Elevation}
+
+-- the wavelength in metres
+unfoldable pub waveOf : Float → Float
+waveOf fmc = num 2997925 10000 ⊘ fmc
+
+unfoldable pub radiansOf : Float → Float
+radiansOf degrees = degrees ⊠ num 17453293 1000000000
+
+-- the off-azimuth: reta, and its sine and cosine
+unfoldable pub azimuthOf : Float → Azimuth
+azimuthOf toaz = let reta = radiansOf toaz in record { reta = reta; sb = sine reta; cb = cosine reta }
+
+-- the elevation by its cosine and sine: t and q, r = q q and s = r r
+unfoldable pub elevationOf : Float → Float → Elevation
+elevationOf t q = let r = q ⊠ q in record { t = t; q = q; r = r; s = r ⊠ r }

@@ -1,0 +1,3 @@
+pub mod Angles
+pub mod Soil
+pub mod Ground

@@ -1,0 +1,3 @@
+pub mod Legs
+pub mod Rhombic
+pub mod Interlaced

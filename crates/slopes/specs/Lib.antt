@@ -1,0 +1,4 @@
+pub mod Slope
+pub mod Direction
+pub mod Vee
+pub mod Rhombic

@@ -1,0 +1,44 @@
+-- Document 01 section 4, types 7 and 9: what holds for a whole row. Definitions only.
+use mathlib.Core.Bool.{cond}
+use lib.Ieee.{Float, lt}
+use Rattle.single.specs.Single.{_⊞_, _⊟_, _⊠_, _⊘_, num}
+use Rattle.root.specs.Root.{root}
+use Rattle.elementary.specs.Basic.{absolute}
+use Rattle.elementary.specs.Trigonometric.{sine, cosine}
+use Rattle.elementary.specs.Arctangent.{arcsine}
+use Rattle.parameters.specs.declared.length.LegInWaves.{LegInWaves}
+use Rattle.parameters.specs.declared.length.HeightInWaves.{HeightInWaves}
+use Rattle.reflection.specs.Angles.{radiansOf}
+use Rattle.reflection.specs.declared.angles.Azimuth.{Azimuth}
+use Rattle.slopes.specs.declared.slope.Slope.{Slope}
+
+-- ht: the other end's height in wavelengths. The first extra is in wavelengths where negative, else in metres
+unfoldable pub htOf : Float → Float → Float
+htOf aex1 wave = cond (lt aex1 (num 0 1)) (absolute aex1) (aex1 ⊘ wave)
+
+-- from the slope's sine g on. The Rust's rhi is the angle phi in radians, and then this arcsine
+unfoldable pub slopeOf : Float → Float → Float → Float → Float → Slope
+slopeOf g fac hwave phi reta =
+    let pp = root (num 1 1 ⊟ g ⊠ g) in
+    let e = sine (radiansOf phi) in
+    let rhi = arcsine (e ⊘ pp) in
+    record {
+      g = g;
+      pp = pp;
+      sisum = sine (rhi ⊞ reta);
+      sidif = sine (reta ⊟ rhi);
+      cosum = cosine (rhi ⊞ reta);
+      codif = cosine (rhi ⊟ reta);
+      fac2 = fac ⊠ num 2 1;
+      hwave2 = num 2 1 ⊠ hwave;
+    }
+
+unfoldable pub veeSlope : Float → Float → LegInWaves → HeightInWaves → Float → Azimuth → Slope
+veeSlope aex1 wave leg height phi azimuth =
+    let g = (htOf aex1 wave ⊟ height .h1) ⊘ leg .el1 in
+    slopeOf g (leg .fac) (height .hwave) phi (azimuth .reta)
+
+unfoldable pub rhombicSlope : Float → Float → LegInWaves → HeightInWaves → Float → Azimuth → Slope
+rhombicSlope aex1 wave leg height phi azimuth =
+    let g = (htOf aex1 wave ⊟ height .h1) ⊘ leg .el1 ⊠ num 5 10 in
+    slopeOf g (leg .fac) (height .hwave) phi (azimuth .reta)
