@@ -3,12 +3,15 @@
 
 pub mod calls;
 pub mod elementary;
+pub mod gain_lines;
+pub mod lists_curtain;
 pub mod lists_dipoles;
 pub mod lists_integrals;
 pub mod lists_output;
 pub mod lists_parameters;
 pub mod lists_rhombics;
 pub mod lists_slopes;
+pub mod lists_verticals;
 pub mod splitmix;
 pub mod standins;
 

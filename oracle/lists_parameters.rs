@@ -155,7 +155,7 @@ fn monopole(h: f32, wave: f32) -> (f32, f32) {
 }
 
 /// By number: compatible, corrected, measuring without and with the fix.
-fn models() -> [Model; 4] {
+pub fn models() -> [Model; 4] {
     let measuring = |curtain_elevation| {
         Model::Measuring(Fixes {
             curtain_elevation,

@@ -2,9 +2,9 @@
 ghost use mathlib.Core.Path.{_≡_};
 ghost use Rattle.dipoles.specs.Row.{resistance, dipoleRow};
 use integrals::IntegralPair;
-use integrals::integral_pair;
 use integrals::Integrals;
 use integrals::Turns;
+use integrals::integral_pair;
 
 // `cfac` is the cosine of the leg's phase `fac`, `scale` is 120 over the resistance `xr`, and
 // `hwave2` twice the height's phase.

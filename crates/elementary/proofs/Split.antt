@@ -105,18 +105,22 @@ module _ (y m : Float) (e : ℤ) (n : ℕ) (P : 0 < n) (v : HasValue y false n (
           cut true f g =
               let h : suc j ≤ 149 = f tt in
               let c = 149 - suc j in
-              let two : 2 ^ 149 ≡ 2 ^ c * 2 ^ suc j = ap (λ (x : ℕ). 2 ^ x) (let z : 149 ≡ c + suc j = omega arith in z) ∙ pow-add 2 c (suc j) in
-              (c, value-by m n (2 ^ c) m-positive (eq-of-mul-eq-mul-right (2 ^ suc j) (pow-pos (suc j)) (num m * 2 ^ c) (n * den m)
-              (mul-assoc (num m) (2 ^ c) (2 ^ suc j) ∙ ap (λ (x : ℕ). num m * x) (sym two) ∙ ap (λ (x : ℕ). x * 2 ^ 149) (sym (mul-one (num m))) ∙ k ∙ sym (mul-assoc n (den m) (2 ^ suc j)))), q ∙ minus-down j h)
+              let two : 2 ^ 149 ≡ 2 ^ c * 2 ^ suc j = ap (λ (x : ℕ). 2 ^ x) (let z : 149 ≡ c + suc j = omega arith in z) ∙ pow-add 2 c (suc j) in (
+                c,
+                value-by m n (2 ^ c) m-positive (eq-of-mul-eq-mul-right (2 ^ suc j) (pow-pos (suc j)) (num m * 2 ^ c) (n * den m)
+                    (mul-assoc (num m) (2 ^ c) (2 ^ suc j) ∙ ap (λ (x : ℕ). num m * x) (sym two) ∙ ap (λ (x : ℕ). x * 2 ^ 149) (sym (mul-one (num m))) ∙ k ∙ sym (mul-assoc n (den m) (2 ^ suc j)))),
+                q ∙ minus-down j h,
+              )
 
   -- that power is one of two, by n's digits
   module _ (k : ℕ) (l : 2 ^ k ≤ n) (h : n < 2 ^ suc k) where
     near : (c : ℕ) → HasValue m false n (2 ^ c) → (k ≤ c) × (c ≤ suc k)
     near c w =
         let u : n * 8388608 < 11863283 * 2 ^ c = below-end-of n (2 ^ c) (pow-pos c) w in
-        let t : 11863283 * 2 ^ c ≤ n * 16777216 = values-of-le leastDigits m 11863283 (2 ^ 24) n (2 ^ c) least-positive m-positive least-value w (s .least) in
-        (le-of-suc-le-suc (lt-of-not-le (λ (g : suc c ≤ k). let p : 2 ^ suc c ≤ 2 ^ k = pow-mono g in let d : 2 ^ suc c ≡ 2 * 2 ^ c = pow-succ' 2 c in omega arith)),
-        le-of-suc-le-suc (lt-of-not-le (λ (g : suc (suc k) ≤ c). let p : 2 ^ suc (suc k) ≤ 2 ^ c = pow-mono g in let d : 2 ^ suc (suc k) ≡ 2 * 2 ^ suc k = pow-succ' 2 (suc k) in omega arith)))
+        let t : 11863283 * 2 ^ c ≤ n * 16777216 = values-of-le leastDigits m 11863283 (2 ^ 24) n (2 ^ c) least-positive m-positive least-value w (s .least) in (
+          le-of-suc-le-suc (lt-of-not-le (λ (g : suc c ≤ k). let p : 2 ^ suc c ≤ 2 ^ k = pow-mono g in let d : 2 ^ suc c ≡ 2 * 2 ^ c = pow-succ' 2 c in omega arith)),
+          le-of-suc-le-suc (lt-of-not-le (λ (g : suc (suc k) ≤ c). let p : 2 ^ suc (suc k) ≤ 2 ^ c = pow-mono g in let d : 2 ^ suc (suc k) ≡ 2 * 2 ^ suc k = pow-succ' 2 (suc k) in omega arith)),
+        )
 
 -- ---- the two m that `lnFrom` picks from
 abbrev first : ℕ → ℕ → Float
@@ -209,18 +213,26 @@ module _ (n : ℕ) (d : ℤ) (t : T (fits binary32 (fin false (suc n) d))) where
     where
       go : (k : ℕ) → size N ≡ suc k → 2 ^ k ≤ N → N < 2 ^ suc k → (b : Bool) → lt (first N k) digitsEnd ≡ b → (m : Float) × (e : ℤ) × T (fits binary32 m) × Split (fin false (suc n) d) m e
       go k z l h true q =
-          let w = exact-at k (omega arith) (omega arith) in
-          (first N k, minus k 149, round-fits binary32 false N (2 ^ k), record {
-            exact = exact-split (first N k) k w;
-            least = le-of-values leastDigits (first N k) 11863283 (2 ^ 24) N (2 ^ k) (pow-pos 24) (pow-pos k) least-value w (let g : 11863283 * 2 ^ k ≤ N * 16777216 = omega arith in g);
-            below = q;
-          })
+          let w = exact-at k (omega arith) (omega arith) in (
+            first N k,
+            minus k 149,
+            round-fits binary32 false N (2 ^ k),
+            record {
+              exact = exact-split (first N k) k w;
+              least = le-of-values leastDigits (first N k) 11863283 (2 ^ 24) N (2 ^ k) (pow-pos 24) (pow-pos k) least-value w (let g : 11863283 * 2 ^ k ≤ N * 16777216 = omega arith in g);
+              below = q;
+            },
+          )
       go k z l h false q =
           let w = exact-at (suc k) (omega arith) (omega arith) in
           let two : 2 ^ suc k ≡ 2 * 2 ^ k = pow-succ' 2 k in
-          let g : 11863283 * 2 ^ k ≤ N * 8388608 = ge-values (first N k) digitsEnd N (2 ^ k) 11863283 (2 ^ 23) (pow-pos k) (pow-pos 23) (exact-at k (omega arith) (omega arith)) end-value q in
-          (first N (suc k), minus (suc k) 149, round-fits binary32 false N (2 ^ suc k), record {
-            exact = exact-split (first N (suc k)) (suc k) w;
-            least = le-of-values leastDigits (first N (suc k)) 11863283 (2 ^ 24) N (2 ^ suc k) (pow-pos 24) (pow-pos (suc k)) least-value w (let r : 11863283 * 2 ^ suc k ≤ N * 16777216 = omega arith in r);
-            below = lt-values (first N (suc k)) digitsEnd N (2 ^ suc k) 11863283 (2 ^ 23) (pow-pos (suc k)) (pow-pos 23) w end-value (let r : N * 8388608 < 11863283 * 2 ^ suc k = omega arith in r);
-          })
+          let g : 11863283 * 2 ^ k ≤ N * 8388608 = ge-values (first N k) digitsEnd N (2 ^ k) 11863283 (2 ^ 23) (pow-pos k) (pow-pos 23) (exact-at k (omega arith) (omega arith)) end-value q in (
+            first N (suc k),
+            minus (suc k) 149,
+            round-fits binary32 false N (2 ^ suc k),
+            record {
+              exact = exact-split (first N (suc k)) (suc k) w;
+              least = le-of-values leastDigits (first N (suc k)) 11863283 (2 ^ 24) N (2 ^ suc k) (pow-pos 24) (pow-pos (suc k)) least-value w (let r : 11863283 * 2 ^ suc k ≤ N * 16777216 = omega arith in r);
+              below = lt-values (first N (suc k)) digitsEnd N (2 ^ suc k) 11863283 (2 ^ 23) (pow-pos (suc k)) (pow-pos 23) w end-value (let r : N * 8388608 < 11863283 * 2 ^ suc k = omega arith in r);
+            },
+          )

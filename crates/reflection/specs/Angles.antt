@@ -5,6 +5,10 @@ use Rattle.elementary.specs.Trigonometric.{sine, cosine}
 use Rattle.reflection.specs.declared.angles.Azimuth.{Azimuth}
 use Rattle.reflection.specs.declared.angles.Elevation.{Elevation}
 
+-- constants.rs's PI, one step below the f32 nearest to pi: types 6 and 9
+abbrev pub pi : Float
+pi = num 31415926 10000000
+
 -- the wavelength in metres
 unfoldable pub waveOf : Float → Float
 waveOf fmc = num 2997925 10000 ⊘ fmc

@@ -81,7 +81,6 @@ module _ (m : ℕ) (lo : 2 ^ 46 ≤ m) (hi : m < 2 ^ 48) where
         ∙ ap (compare (4 * m * (c * c))) (sq (2 * q + 1) c)
         ∙ compare-scale (4 * m) ((2 * q + 1) * (2 * q + 1)) (c * c) (mul-pos (pow-pos j) (pow-pos j)))
 
-
 -- ---- from the pattern's digits to 46 to 48 digits times a power of 4
 module _ (b : ℕ) (l : 8388608 ≤ b) (h : b < 2139095040) where
   abbrev E : ℕ

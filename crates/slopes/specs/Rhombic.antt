@@ -2,16 +2,13 @@
 use lib.Ieee.{Float, neg}
 use Rattle.single.specs.Single.{_⊞_, _⊟_, _⊠_, _⊘_, num}
 use Rattle.elementary.specs.Trigonometric.{sine, cosine}
+use Rattle.reflection.specs.Angles.{pi}
 use Rattle.reflection.specs.declared.angles.Elevation.{Elevation}
 use Rattle.reflection.specs.declared.ground.Ground.{Ground}
 use Rattle.slopes.specs.declared.slope.Slope.{Slope}
 use Rattle.slopes.specs.declared.direction.Field.{Field}
 use Rattle.slopes.specs.declared.rhombic.LegPair.{LegPair}
 use Rattle.slopes.specs.Direction.{directionOf, reflectedOf}
-
--- the scalar PI, as constants.rs has it
-abbrev pub π : Float
-π = num 31415926 10000000
 
 -- a6 and b6 of u1 and u2, a7 and b7 of u3 and u4
 unfoldable pub legPairOf : Float → Float → Float → LegPair
@@ -41,7 +38,7 @@ slopingRhombicRain slope elevation ground =
     let y7 = d .copsi5 ⊘ d .u3 ⊟ d .copsi6 ⊘ d .u4 in
     let x8 = slope .sidif ⊘ d .u1 ⊟ slope .sisum ⊘ d .u2 in
     let y8 = slope .sidif ⊘ d .u3 ⊟ slope .sisum ⊘ d .u4 in
-    let w = reflectedOf (ground .psih ⊞ π) (ground .psiv ⊟ π) (slope .hwave2) (elevation .q) in
+    let w = reflectedOf (ground .psih ⊞ pi) (ground .psiv ⊟ pi) (slope .hwave2) (elevation .q) in
     let v = fieldOf x7 y7 (ground .cv) (w .w3) (w .w4) legs images in
     let h = fieldOf x8 y8 (ground .ch) (w .w1) (w .w2) legs images in
     let pp = slope .pp in

@@ -1,0 +1,34 @@
+use borrow.Author.Needs.{needs, sfits-of}
+use borrow.Author.Tests.{lt-ltb, le-ltb}
+use Rattle.curtain.proofs.Count.{up-fits, count-up, count-down}
+use Rattle.curtain.proofs.card.count_of.Statement.{statement}
+use Rattle.curtain.proofs.card.count_of.Tie as tie
+
+cut-requires : tie.Need-cut-requires
+cut-requires c κs = search needs
+
+cast-k : tie.Need-cast-k
+cast-k c = up-fits (c .before .cut .result) (sfits-of (c .before .cut .ok)) (c .if1 .taken)
+
+cast-result : tie.Need-cast-result
+cast-result c = search needs
+
+returns : tie.Need-returns
+returns c = rw (
+  ← c .before .before .cut .ensures,
+  count-up _ (sfits-of (c .before .before .cut .ok)) _ _ (c .before .if1 .taken),
+  lt-ltb _ _ (c .if2 .taken),
+)
+
+returns-2 : tie.Need-returns-2
+returns-2 c = rw (
+  ← c .before .before .cut .ensures,
+  count-up _ (sfits-of (c .before .before .cut .ok)) _ _ (c .before .if1 .taken),
+  le-ltb _ _ (c .if2 .left),
+)
+
+returns-3 : tie.Need-returns-3
+returns-3 c = rw (← c .before .cut .ensures, count-down _ (sfits-of (c .before .cut .ok)) _ _ (c .if1 .left))
+
+pub count-of-spec : {M : Type 1} → statement M
+count-of-spec = tie.close (tie.spec cut-requires cast-k cast-result returns returns-2 returns-3)

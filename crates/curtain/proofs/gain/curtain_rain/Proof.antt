@@ -1,0 +1,30 @@
+use lib.Ieee.{round, ofBits}
+use Rattle.curtain.specs.Gain.{rainOf}
+use borrow.Author.Needs.{needs}
+use Rattle.curtain.proofs.gain.curtain_rain.Statement.{statement}
+use Rattle.curtain.proofs.gain.curtain_rain.Tie as tie
+
+enum-told : tie.Need-enum-told
+enum-told c = search needs
+
+enum-told-2 : tie.Need-enum-told-2
+enum-told-2 c = search needs
+
+enum-known-gain : tie.Need-enum-known-gain
+enum-known-gain c = search needs
+
+returns : tie.Need-returns
+unfolding rainOf round ofBits
+returns c = rw (c .enum-told .given .1)
+
+returns-2 : tie.Need-returns-2
+unfolding rainOf round ofBits
+returns-2 c = rw (c .enum-told2 .given .1)
+
+returns-3 : tie.Need-returns-3
+unfolding rainOf round ofBits
+returns-3 c = rw (c .before .gain .given .1)
+
+pub curtain-rain-spec : {M : Type 1} → statement M
+curtain-rain-spec =
+    tie.close (tie.spec enum-told enum-told-2 enum-known-gain returns returns-2 returns-3)

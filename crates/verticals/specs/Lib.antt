@@ -1,0 +1,3 @@
+pub mod Resistance
+pub mod Monopole
+pub mod InvertedL
