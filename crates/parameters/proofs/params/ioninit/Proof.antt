@@ -1,25 +1,9 @@
-use Prim.Native.Nat.{ℕ}
-use mathlib.Core.Path.{_≡_, refl, sym, ap, _∙_}
-use mathlib.Core.Bool.{false}
 use borrow.Author.Needs.{needs}
-use borrow.Author.Tests.{ne-eqb}
-use lib.IntN.{ℤ, pos, negsuc}
-use mir.Syntax.{w32}
-use mir.Val.{ofZ, toZ}
-use mir.Facts.{toZ-ofZ}
 use lib.Ieee.{round, ofBits}
 use Rattle.parameters.specs.Params.{isType, ioninitOf}
+use Rattle.parameters.proofs.Types.{no-type, is-type}
 use Rattle.parameters.proofs.params.ioninit.Statement.{statement}
 use Rattle.parameters.proofs.params.ioninit.Tie as tie
-
--- a match on an i32 compares the pattern of its 32 bits
-no-type : (k : ℤ) (n : ℕ) → (ofZ w32 k ≡ n → ⊥) → isType k n ≡ false
-unfolding isType
-no-type (pos k) n h = ne-eqb k n h
-no-type (negsuc k) n h = refl
-
-is-type : (s : tie.Start) {n : ℕ} → ofZ w32 (s .args .index) ≡ n → s .args .index ≡ toZ w32 n
-is-type s e = sym (toZ-ofZ (search needs)) ∙ ap (toZ w32) e
 
 element-copy-out-s6 : tie.Need-element-copy-out-s6
 element-copy-out-s6 c = search needs
@@ -77,43 +61,43 @@ params-requires-11 c κs = search needs
 
 returns : tie.Need-returns
 unfolding ioninitOf isType round ofBits
-returns c = rw (is-type (c .before .before .before .before .before .before .before .before .before) (c .before .match .keys1)) (c .params .ensures)
+returns c = rw (is-type (c .before .before .before .before .before .before .before .before .before .args .index) (search needs) (c .before .match .keys1)) (c .params .ensures)
 
 returns-2 : tie.Need-returns-2
 unfolding ioninitOf isType round ofBits
-returns-2 c = rw (is-type (c .before .before .before .before .before .before .before .before .before) (c .before .match .keys2)) (c .params2 .ensures)
+returns-2 c = rw (is-type (c .before .before .before .before .before .before .before .before .before .args .index) (search needs) (c .before .match .keys2)) (c .params2 .ensures)
 
 returns-3 : tie.Need-returns-3
 unfolding ioninitOf isType round ofBits
-returns-3 c = rw (is-type (c .before .before .before .before .before .before .before .before .before) (c .before .match .keys3)) (c .params3 .ensures)
+returns-3 c = rw (is-type (c .before .before .before .before .before .before .before .before .before .args .index) (search needs) (c .before .match .keys3)) (c .params3 .ensures)
 
 returns-4 : tie.Need-returns-4
 unfolding ioninitOf isType round ofBits
-returns-4 c = rw (is-type (c .before .before .before .before .before .before .before .before .before) (c .before .match .keys4)) (c .params4 .ensures)
+returns-4 c = rw (is-type (c .before .before .before .before .before .before .before .before .before .args .index) (search needs) (c .before .match .keys4)) (c .params4 .ensures)
 
 returns-5 : tie.Need-returns-5
 unfolding ioninitOf isType round ofBits
-returns-5 c = rw (is-type (c .before .before .before .before .before .before .before .before .before) (c .before .match .keys5)) (c .params5 .ensures)
+returns-5 c = rw (is-type (c .before .before .before .before .before .before .before .before .before .args .index) (search needs) (c .before .match .keys5)) (c .params5 .ensures)
 
 returns-6 : tie.Need-returns-6
 unfolding ioninitOf isType round ofBits
-returns-6 c = rw (is-type (c .before .before .before .before .before .before .before .before .before) (c .before .match .keys6)) (c .params6 .ensures)
+returns-6 c = rw (is-type (c .before .before .before .before .before .before .before .before .before .args .index) (search needs) (c .before .match .keys6)) (c .params6 .ensures)
 
 returns-7 : tie.Need-returns-7
 unfolding ioninitOf isType round ofBits
-returns-7 c = rw (is-type (c .before .before .before .before .before .before .before .before .before) (c .before .match .keys7)) (c .params7 .ensures)
+returns-7 c = rw (is-type (c .before .before .before .before .before .before .before .before .before .args .index) (search needs) (c .before .match .keys7)) (c .params7 .ensures)
 
 returns-8 : tie.Need-returns-8
 unfolding ioninitOf isType round ofBits
-returns-8 c = rw (is-type (c .before .before .before .before .before .before .before .before .before) (c .before .match .keys8)) (c .params8 .ensures)
+returns-8 c = rw (is-type (c .before .before .before .before .before .before .before .before .before .args .index) (search needs) (c .before .match .keys8)) (c .params8 .ensures)
 
 returns-9 : tie.Need-returns-9
 unfolding ioninitOf isType round ofBits
-returns-9 c = rw (is-type (c .before .before .before .before .before .before .before .before .before) (c .before .match .keys9)) (c .params9 .ensures)
+returns-9 c = rw (is-type (c .before .before .before .before .before .before .before .before .before .args .index) (search needs) (c .before .match .keys9)) (c .params9 .ensures)
 
 returns-10 : tie.Need-returns-10
 unfolding ioninitOf isType round ofBits
-returns-10 c = rw (is-type (c .before .before .before .before .before .before .before .before .before) (c .before .match .keys10)) (c .params10 .ensures)
+returns-10 c = rw (is-type (c .before .before .before .before .before .before .before .before .before .args .index) (search needs) (c .before .match .keys10)) (c .params10 .ensures)
 
 returns-11 : tie.Need-returns-11
 unfolding ioninitOf round ofBits
