@@ -1,0 +1,44 @@
+use mathlib.Core.Path.{_≡_, refl, sym, ap, _∙_}
+use lib.IntN.{ℤ}
+use mir.Syntax.{w32}
+use mir.ValLaws.{toZ-ofZ}
+use Rattle.ioncap.specs.Finish.{floored}
+use lib.Ieee.{round, ofBits, neg}
+use Rattle.ioncap.specs.Cell.{curtainCell}
+use borrow.Author.Needs.{needs}
+use Rattle.ioncap.proofs.cell.curtain_cell.Statement.{statement}
+use Rattle.ioncap.proofs.cell.curtain_cell.Tie as tie
+use Rattle.ioncap.proofs.cell.curtain_cell.Reads as reads
+use Rattle.ioncap.proofs.cell.curtain_cell.Lts as lts
+use Rattle.curtain.proofs.curtain_cell.Reads as curtain-cell-reads
+use Rattle.curtain.proofs.curtain_rain.Reads as curtain-rain-reads
+use Rattle.curtain.proofs.curtain_sok.Reads as curtain-sok-reads
+use Rattle.ioncap.proofs.finish.with_floor.Reads as with-floor-reads
+
+curtain-cell-requires : tie.Need-curtain-cell-requires
+curtain-cell-requires c κs = search needs
+
+curtain-rain-requires : tie.Need-curtain-rain-requires
+curtain-rain-requires c κs = search needs
+
+curtain-sok-requires : tie.Need-curtain-sok-requires
+curtain-sok-requires c κs = search needs
+
+with-floor-requires : tie.Need-with-floor-requires
+with-floor-requires c κs = search needs
+
+returns : tie.Need-returns
+unfolding curtainCell
+returns c = let row = c .before .before .before .before .before .before .args .row in
+    rw (← c .before .before .before .curtain-cell .ensures, ← c .before .before .curtain-rain .ensures, ← c .before .curtain-sok .ensures)
+    ((c .with-floor .ensures) ∙ ap (λ (k : ℤ). floored k (c .before .before .curtain-rain .result) (row .eff) (c .before .curtain-sok .result)) (toZ-ofZ w32 (row .kop) (search needs)))
+
+pub curtain-cell-spec : {M : Type 1} → statement M
+curtain-cell-spec =
+    tie.close
+    (tie.spec
+    curtain-cell-requires
+    curtain-rain-requires
+    curtain-sok-requires
+    with-floor-requires
+    returns)

@@ -1,0 +1,30 @@
+use mathlib.Core.Path.{_≡_, refl, sym, ap, _∙_}
+use lib.IntN.{ℤ}
+use mir.Syntax.{w32}
+use mir.ValLaws.{toZ-ofZ}
+use lib.Ieee.{round, ofBits, neg}
+use Rattle.ioncap.specs.Core.{workOf}
+use borrow.Author.Needs.{needs}
+use Rattle.ioncap.proofs.core.work.Statement.{statement}
+use Rattle.ioncap.proofs.core.work.Tie as tie
+use Rattle.ioncap.proofs.core.work.Reads as reads
+use Rattle.ioncap.proofs.core.work.Lts as lts
+use Rattle.ioncap.proofs.core.above_ground.Reads as above-ground-reads
+use Rattle.ioncap.proofs.core.at_ground.Reads as at-ground-reads
+
+at-ground-requires : tie.Need-at-ground-requires
+at-ground-requires c κs = search needs
+
+returns : tie.Need-returns
+unfolding workOf round ofBits
+returns c = rw (c .before .if1 .taken) (c .at-ground .ensures)
+
+above-ground-requires : tie.Need-above-ground-requires
+above-ground-requires c κs = search needs
+
+returns-2 : tie.Need-returns-2
+unfolding workOf round ofBits
+returns-2 c = rw (c .before .if1 .left) (c .above-ground .ensures)
+
+pub work-spec : {M : Type 1} → statement M
+work-spec = tie.close (tie.spec at-ground-requires returns above-ground-requires returns-2)

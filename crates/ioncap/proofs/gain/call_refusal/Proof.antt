@@ -1,0 +1,50 @@
+use mathlib.Core.Path.{_≡_, refl, sym, ap, _∙_}
+use lib.IntN.{ℤ}
+use mir.Syntax.{w32}
+use mir.ValLaws.{toZ-ofZ}
+use lib.Ieee.{round, ofBits}
+use Rattle.limits.specs.Refusals.{firstRefusal}
+use Rattle.limits.specs.Tests.{inputRefusal}
+use Rattle.ioncap.specs.Gain.{callRefusal}
+use borrow.Author.Needs.{needs}
+use Rattle.ioncap.proofs.gain.call_refusal.Statement.{statement}
+use Rattle.ioncap.proofs.gain.call_refusal.Tie as tie
+use Rattle.ioncap.proofs.gain.call_refusal.Reads as reads
+use Rattle.ioncap.proofs.gain.call_refusal.Lts as lts
+use Rattle.ioncap.proofs.gain.call_outside.Reads as call-outside-reads
+use Rattle.ioncap.proofs.gain.mhz_outside.Reads as mhz-outside-reads
+use Rattle.limits.proofs.is_finite.Reads as is-finite-reads
+use Rattle.limits.proofs.input_refusal.Reads as input-refusal-reads
+
+is-finite-requires : tie.Need-is-finite-requires
+is-finite-requires c κs = search needs
+
+returns : tie.Need-returns
+unfolding callRefusal firstRefusal
+returns c = rw (← c .before .is-finite .ensures, c .if1 .taken)
+
+call-outside-requires : tie.Need-call-outside-requires
+call-outside-requires c κs = search needs
+
+mhz-outside-requires : tie.Need-mhz-outside-requires
+mhz-outside-requires c κs = search needs
+
+input-refusal-requires : tie.Need-input-refusal-requires
+input-refusal-requires c κs = search needs
+
+returns-2 : tie.Need-returns-2
+unfolding callRefusal firstRefusal inputRefusal round ofBits
+returns-2 c = let call = c .before .before .before .before .before .before .before .args .call in
+    rw (← c .before .before .before .before .before .before .is-finite .ensures, c .before .before .before .before .before .if1 .left, ← c .before .before .before .before .call-outside .ensures, ← c .before .before .before .mhz-outside .ensures)
+    ((c .input-refusal .ensures) ∙ ap (λ (k : ℤ). inputRefusal k (c .before .before .before .before .call-outside .result) (call .params .asig) (c .before .before .before .mhz-outside .result) (call .params .and)) (toZ-ofZ w32 (call .kop) (search needs)))
+
+pub call-refusal-spec : {M : Type 1} → statement M
+call-refusal-spec =
+    tie.close
+    (tie.spec
+    is-finite-requires
+    returns
+    call-outside-requires
+    mhz-outside-requires
+    input-refusal-requires
+    returns-2)

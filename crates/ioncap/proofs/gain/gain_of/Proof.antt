@@ -1,0 +1,71 @@
+use mathlib.Core.Path.{_≡_, refl, sym, ap, _∙_}
+use lib.IntN.{ℤ}
+use mir.Syntax.{w32}
+use mir.ValLaws.{toZ-ofZ}
+use borrow.Author.Tests.{ne-eqb, eq-eqb}
+use Rattle.ioncap.specs.Row.{antennaOf}
+use Rattle.ioncap.specs.Gain.{callWork}
+use lib.Ieee.{round, ofBits, neg}
+use Rattle.ioncap.specs.Gain.{gainOf}
+use borrow.Author.Needs.{needs}
+use Rattle.ioncap.proofs.gain.gain_of.Statement.{statement}
+use Rattle.ioncap.proofs.gain.gain_of.Tie as tie
+use Rattle.ioncap.proofs.gain.gain_of.Reads as reads
+use Rattle.ioncap.proofs.gain.gain_of.Lts as lts
+use Rattle.elementary.proofs.sin_cos.Reads as sin-cos-reads
+use Rattle.ioncap.proofs.antenna.antenna_of.Reads as antenna-of-reads
+use Rattle.ioncap.proofs.core.work.Reads as work-reads
+use Rattle.ioncap.proofs.gain.call_refusal.Reads as call-refusal-reads
+use Rattle.reflection.proofs.elevation_of.Reads as elevation-of-reads
+
+call-refusal-requires : tie.Need-call-refusal-requires
+call-refusal-requires c κs = search needs
+
+returns : tie.Need-returns
+unfolding gainOf
+returns c = rw (← c .before .call-refusal .ensures, ne-eqb _ 0 (c .if1 .taken))
+
+antenna-of-requires : tie.Need-antenna-of-requires
+antenna-of-requires c κs = search needs
+
+sin-cos-requires : tie.Need-sin-cos-requires
+sin-cos-requires c κs = search needs
+
+elevation-of-requires : tie.Need-elevation-of-requires
+elevation-of-requires c κs = search needs
+
+work-requires : tie.Need-work-requires
+work-requires c κs = search needs
+
+enum-known-call : tie.Need-enum-known-call
+enum-known-call c = search needs
+
+enum-told : tie.Need-enum-told
+enum-told c = search needs
+
+returns-2 : tie.Need-returns-2
+unfolding gainOf callWork
+returns-2 c = let call = c .before .before .before .before .before .before .before .before .before .before .args .call in
+    let antenna : c .before .before .before .before .before .antenna-of .result ≡ antennaOf (call .kop) (call .toaz) (call .params) (call .model) = (c .before .before .before .before .before .antenna-of .ensures) ∙ ap (λ (k : ℤ). antennaOf k (call .toaz) (call .params) (call .model)) (toZ-ofZ w32 (call .kop) (search needs)) in
+    rw (← c .before .before .before .before .before .before .before .before .before .call-refusal .ensures, c .before .before .before .before .before .before .before .before .if1 .left, ← antenna, ← c .before .before .before .before .sin-cos .ensures .0, ← c .before .before .before .before .sin-cos .ensures .1, ← c .before .before .before .elevation-of .ensures, ← c .before .before .work .ensures, c .enum-told .given .1)
+
+returns-3 : tie.Need-returns-3
+unfolding gainOf callWork
+returns-3 c = let call = c .before .before .before .before .before .before .before .before .before .before .before .args .call in
+    let antenna : c .before .before .before .before .before .before .antenna-of .result ≡ antennaOf (call .kop) (call .toaz) (call .params) (call .model) = (c .before .before .before .before .before .before .antenna-of .ensures) ∙ ap (λ (k : ℤ). antennaOf k (call .toaz) (call .params) (call .model)) (toZ-ofZ w32 (call .kop) (search needs)) in
+    rw (← c .before .before .before .before .before .before .before .before .before .before .call-refusal .ensures, c .before .before .before .before .before .before .before .before .before .if1 .left, ← antenna, ← c .before .before .before .before .before .sin-cos .ensures .0, ← c .before .before .before .before .before .sin-cos .ensures .1, ← c .before .before .before .before .elevation-of .ensures, ← c .before .before .before .work .ensures, c .before .call .given .1)
+
+pub gain-of-spec : {M : Type 1} → statement M
+gain-of-spec =
+    tie.close
+    (tie.spec
+    call-refusal-requires
+    returns
+    antenna-of-requires
+    sin-cos-requires
+    elevation-of-requires
+    work-requires
+    enum-known-call
+    enum-told
+    returns-2
+    returns-3)
