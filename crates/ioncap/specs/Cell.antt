@@ -13,11 +13,11 @@ use Rattle.curtain.specs.Gain.{rainOf, sokOf}
 use Rattle.curtain.specs.Cell as Curtain
 use Rattle.curtain.specs.declared.card.CurtainCard.{CurtainCard}
 use Rattle.curtain.specs.declared.row.CurtainRow.{CurtainRow}
-use Rattle.ioncap.specs.Finish.{decibelsOf, floored}
-use Rattle.ioncap.specs.Pattern.{powerOf}
-use Rattle.ioncap.specs.declared.pattern.Pattern.{Pattern}
-use Rattle.ioncap.specs.declared.pattern.Pattern.the-variants as P
-use Rattle.ioncap.specs.declared.row.Row.{Row}
+use Rattle.finish.specs.Finish.{decibelsOf, floored}
+use Rattle.patterns.specs.Pattern.{powerOf}
+use Rattle.patterns.specs.declared.pattern.Pattern.{Pattern}
+use Rattle.patterns.specs.declared.pattern.Pattern.the-variants as P
+use Rattle.patterns.specs.declared.row.Row.{Row}
 
 -- a power, taken to dB
 unfoldable pub powerCell : Row → Azimuth → Elevation → Float

@@ -2,16 +2,14 @@
 use mathlib.Core.Bool.{cond}
 use lib.Ieee.{Float, le}
 use Rattle.single.specs.Single.{num}
-use Rattle.integrals.specs.declared.entry.Turns.{Turns}
 use Rattle.reflection.specs.declared.angles.Elevation.{Elevation}
-use Rattle.ioncap.specs.Finish.{groundOf}
-use Rattle.ioncap.specs.Row.{rowOf}
+use Rattle.finish.specs.Finish.{groundOf}
+use Rattle.patterns.specs.Row.{rowOf}
 use Rattle.ioncap.specs.Cell.{straightUp, blendOf, looksUp, cellGain}
-use Rattle.ioncap.specs.declared.antenna.Antenna.{Antenna}
-use Rattle.ioncap.specs.declared.row.Row.{Row}
-use Rattle.ioncap.specs.declared.row.RowAnswer.{RowAnswer}
-use Rattle.ioncap.specs.declared.row.RowAnswer.the-variants as R
-use Rattle.ioncap.specs.declared.core.Call.{Call}
+use Rattle.patterns.specs.declared.antenna.Antenna.{Antenna}
+use Rattle.patterns.specs.declared.row.Row.{Row}
+use Rattle.patterns.specs.declared.row.RowAnswer.{RowAnswer}
+use Rattle.patterns.specs.declared.row.RowAnswer.the-variants as R
 use Rattle.ioncap.specs.declared.core.Worked.{Worked}
 use Rattle.ioncap.specs.declared.core.Worked.the-variants.{Settled, Unsettled}
 

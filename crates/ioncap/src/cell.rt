@@ -1,14 +1,11 @@
 // A cell above the ground: `iongain2`, and what `iongain` makes of it for types 3 and 4.
 ghost use mathlib.Core.Path.{_≡_};
 ghost use Rattle.ioncap.specs.Cell.{powerCell, curtainCell, cellOf, straightUp, blendOf, looksUp, cellGain};
-use crate::finish::decibels;
-use crate::finish::with_floor;
-use crate::pattern::Pattern;
-use crate::pattern::power_of;
-use crate::row::Row;
 use curtain::CurtainCard;
 use curtain::CurtainRow;
 use elementary::SineCosine;
+use patterns::Pattern;
+use patterns::Row;
 use reflection::Azimuth;
 use reflection::Elevation;
 
@@ -24,8 +21,8 @@ fn power_cell(row: Row, azimuth: Azimuth, e: Elevation) -> f32
         ..
     } = row;
     let ground = reflection::reflect(soil, e);
-    let rain = power_of(pattern, azimuth, e, ground);
-    with_floor(kop, decibels(rain), eff, sok)
+    let rain = patterns::power_of(pattern, azimuth, e, ground);
+    finish::with_floor(kop, finish::decibels(rain), eff, sok)
 }
 
 // The floor is tested before the reflection is computed.
@@ -50,7 +47,7 @@ fn curtain_cell(
     let gain = curtain::curtain_cell(card, spacings, azimuth, soil, delta, e, threshold);
     let rain = curtain::curtain_rain(gain);
     let added = curtain::curtain_sok(gain, sok);
-    with_floor(kop, rain, eff, added)
+    finish::with_floor(kop, rain, eff, added)
 }
 
 fn cell(row: Row, azimuth: Azimuth, delta: f32, e: Elevation) -> f32
@@ -69,7 +66,12 @@ pub fn straight_up(row: Row) -> f32
 {
     let SineCosine { sine, cosine } = elementary::sin_cos(1.570796);
     let azimuth = reflection::azimuth_of(0.0);
-    cell(row, azimuth, 1.570796, reflection::elevation_of(cosine, sine))
+    cell(
+        row,
+        azimuth,
+        1.570796,
+        reflection::elevation_of(cosine, sine),
+    )
 }
 
 // By the fourth power of the elevation's sine, so that straight up reads the same at each azimuth.

@@ -1,16 +1,14 @@
 // `iongain` by value, within the limits: at the ground by the carried height, above it without.
 ghost use mathlib.Core.Path.{_≡_};
 ghost use Rattle.ioncap.specs.Core.{upFor, aboveGround, atGround, workOf};
-use crate::antenna::Antenna;
 use crate::cell::blend;
 use crate::cell::cell_gain;
 use crate::cell::looks_up;
 use crate::cell::straight_up;
-use crate::finish::ground_gain;
-use crate::row::Row;
-use crate::row::RowAnswer;
-use crate::row::row_of;
 use integrals::Turns;
+use patterns::Antenna;
+use patterns::Row;
+use patterns::RowAnswer;
 use reflection::Elevation;
 
 // `height` is the one left, `turns` the most of an integral's series.
@@ -27,7 +25,7 @@ pub enum Worked {
 }
 
 // What a row's cells blend with; 0 where the type takes none.
-fn up_for(row: Row) -> f32
+pub fn up_for(row: Row) -> f32
     ensures { λ r. ⌜ r ≡ upFor row ⌝ }
 {
     if looks_up(row.kop) {
@@ -39,7 +37,7 @@ fn up_for(row: Row) -> f32
 pub fn above_ground(antenna: Antenna, fmc: f32, delta: f32, e: Elevation) -> Worked
     ensures { λ r. ⌜ r ≡ aboveGround antenna fmc delta e ⌝ }
 {
-    let RowAnswer::Settled(row, turns) = row_of(antenna, fmc) else {
+    let RowAnswer::Settled(row, turns) = patterns::row_of(antenna, fmc) else {
         return Worked::Unsettled;
     };
     let gain = cell_gain(row, up_for(row), antenna.azimuth, delta, e);
@@ -56,9 +54,9 @@ pub fn at_ground(antenna: Antenna, fmc: f32, e: Elevation, height: f32) -> Worke
     ensures { λ r. ⌜ r ≡ atGround antenna fmc e height ⌝ }
 {
     let kop = antenna.kop;
-    let low = ground_gain(kop, height);
+    let low = finish::ground_gain(kop, height);
     if looks_up(kop) {
-        let RowAnswer::Settled(row, turns) = row_of(antenna, fmc) else {
+        let RowAnswer::Settled(row, turns) = patterns::row_of(antenna, fmc) else {
             return Worked::Unsettled;
         };
         return Worked::Settled(Call {

@@ -1,7 +1,6 @@
 // The public gain call, by value.
 ghost use mathlib.Core.Path.{_≡_};
 ghost use Rattle.ioncap.specs.Gain.{callOutside, mhzOutside, callRefusal, gainOf, heightLeft};
-use crate::antenna::antenna_of;
 use crate::core::Call;
 use crate::core::Worked;
 use crate::core::work;
@@ -88,7 +87,7 @@ pub fn gain_of(call: GainCall, height: f32) -> Gain
         fmc,
         model,
     } = call;
-    let antenna = antenna_of(kop, toaz, params, model);
+    let antenna = patterns::antenna_of(kop, toaz, params, model);
     let SineCosine { sine, cosine } = elementary::sin_cos(delta);
     let e = reflection::elevation_of(cosine, sine);
     let Worked::Settled(call) = work(antenna, fmc, delta, e, height) else {

@@ -3,8 +3,6 @@ use mathlib.Core.Path.{refl}
 use Rattle.ioncap.specs.Cell.{blendOf}
 use Rattle.ioncap.proofs.cell.blend.Statement.{statement}
 use Rattle.ioncap.proofs.cell.blend.Tie as tie
-use Rattle.ioncap.proofs.cell.blend.Reads as reads
-use Rattle.ioncap.proofs.cell.blend.Lts as lts
 
 returns : tie.Need-returns
 unfolding blendOf round ofBits

@@ -6,21 +6,15 @@ use lib.Ieee.{Float}
 use Rattle.reflection.specs.declared.angles.Azimuth.{Azimuth}
 use Rattle.reflection.specs.declared.angles.Elevation.{Elevation}
 use Rattle.ioncap.specs.Cell.{powerCell, cellBy}
-use Rattle.ioncap.specs.declared.row.Row.{Row}
-use Rattle.ioncap.specs.declared.pattern.Pattern.{Pattern}
-use Rattle.ioncap.specs.declared.pattern.Pattern.the-variants as P
-use Rattle.ioncap.proofs.pattern.Pattern.{the-type}
-use Prim.Native.Nat.{ℕ}
+use Rattle.patterns.specs.declared.row.Row.{Row}
+use Rattle.patterns.specs.declared.pattern.Pattern.{Pattern}
+use Rattle.patterns.specs.declared.pattern.Pattern.the-variants as P
+use Rattle.patterns.proofs.pattern.Pattern.{the-type}
 use mathlib.Core.Path.{refl}
-use lib.Ieee.{round, ofBits}
 use Rattle.ioncap.specs.Cell.{cellOf}
 use borrow.Author.Needs.{needs}
 use Rattle.ioncap.proofs.cell.cell.Statement.{statement}
 use Rattle.ioncap.proofs.cell.cell.Tie as tie
-use Rattle.ioncap.proofs.cell.cell.Reads as reads
-use Rattle.ioncap.proofs.cell.cell.Lts as lts
-use Rattle.ioncap.proofs.cell.curtain_cell.Reads as curtain-cell-reads
-use Rattle.ioncap.proofs.cell.power_cell.Reads as power-cell-reads
 
 enum-known-pattern : tie.Need-enum-known-pattern
 enum-known-pattern c = search needs

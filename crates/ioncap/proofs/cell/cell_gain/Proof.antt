@@ -1,18 +1,11 @@
-use mathlib.Core.Path.{_≡_, refl, sym, ap, _∙_}
-use lib.IntN.{ℤ}
+use mathlib.Core.Path.{_≡_, ap, _∙_}
 use mir.Syntax.{w32}
 use mir.ValLaws.{toZ-ofZ}
 use Rattle.ioncap.specs.Cell.{looksUp}
-use lib.Ieee.{round, ofBits, neg}
 use Rattle.ioncap.specs.Cell.{cellGain}
 use borrow.Author.Needs.{needs}
 use Rattle.ioncap.proofs.cell.cell_gain.Statement.{statement}
 use Rattle.ioncap.proofs.cell.cell_gain.Tie as tie
-use Rattle.ioncap.proofs.cell.cell_gain.Reads as reads
-use Rattle.ioncap.proofs.cell.cell_gain.Lts as lts
-use Rattle.ioncap.proofs.cell.blend.Reads as blend-reads
-use Rattle.ioncap.proofs.cell.cell.Reads as cell-reads
-use Rattle.ioncap.proofs.cell.looks_up.Reads as looks-up-reads
 
 cell-requires : tie.Need-cell-requires
 cell-requires c κs = search needs

@@ -1,19 +1,12 @@
-use mathlib.Core.Path.{_≡_, refl, sym, ap, _∙_}
+use mathlib.Core.Path.{ap, _∙_}
 use lib.IntN.{ℤ}
 use mir.Syntax.{w32}
 use mir.ValLaws.{toZ-ofZ}
-use Rattle.ioncap.specs.Finish.{floored}
-use lib.Ieee.{round, ofBits, neg}
+use Rattle.finish.specs.Finish.{floored}
 use Rattle.ioncap.specs.Cell.{curtainCell}
 use borrow.Author.Needs.{needs}
 use Rattle.ioncap.proofs.cell.curtain_cell.Statement.{statement}
 use Rattle.ioncap.proofs.cell.curtain_cell.Tie as tie
-use Rattle.ioncap.proofs.cell.curtain_cell.Reads as reads
-use Rattle.ioncap.proofs.cell.curtain_cell.Lts as lts
-use Rattle.curtain.proofs.curtain_cell.Reads as curtain-cell-reads
-use Rattle.curtain.proofs.curtain_rain.Reads as curtain-rain-reads
-use Rattle.curtain.proofs.curtain_sok.Reads as curtain-sok-reads
-use Rattle.ioncap.proofs.finish.with_floor.Reads as with-floor-reads
 
 curtain-cell-requires : tie.Need-curtain-cell-requires
 curtain-cell-requires c κs = search needs

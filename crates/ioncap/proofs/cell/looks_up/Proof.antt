@@ -1,12 +1,9 @@
 use Rattle.parameters.specs.Params.{isType}
 use Rattle.parameters.proofs.Types.{is-type, no-type}
 use borrow.Author.Needs.{needs}
-use lib.Ieee.{round, ofBits, neg}
 use Rattle.ioncap.specs.Cell.{looksUp}
 use Rattle.ioncap.proofs.cell.looks_up.Statement.{statement}
 use Rattle.ioncap.proofs.cell.looks_up.Tie as tie
-use Rattle.ioncap.proofs.cell.looks_up.Reads as reads
-use Rattle.ioncap.proofs.cell.looks_up.Lts as lts
 
 returns : tie.Need-returns
 unfolding looksUp isType

@@ -1,19 +1,12 @@
-use mathlib.Core.Path.{_≡_, refl, sym, ap, _∙_}
+use mathlib.Core.Path.{ap, _∙_}
 use lib.IntN.{ℤ}
 use mir.Syntax.{w32}
 use mir.ValLaws.{toZ-ofZ}
-use Rattle.ioncap.specs.Finish.{floored}
-use lib.Ieee.{round, ofBits, neg}
+use Rattle.finish.specs.Finish.{floored}
 use Rattle.ioncap.specs.Cell.{powerCell}
 use borrow.Author.Needs.{needs}
 use Rattle.ioncap.proofs.cell.power_cell.Statement.{statement}
 use Rattle.ioncap.proofs.cell.power_cell.Tie as tie
-use Rattle.ioncap.proofs.cell.power_cell.Reads as reads
-use Rattle.ioncap.proofs.cell.power_cell.Lts as lts
-use Rattle.ioncap.proofs.finish.decibels.Reads as decibels-reads
-use Rattle.ioncap.proofs.finish.with_floor.Reads as with-floor-reads
-use Rattle.ioncap.proofs.pattern.power_of.Reads as power-of-reads
-use Rattle.reflection.proofs.reflect.Reads as reflect-reads
 
 reflect-requires : tie.Need-reflect-requires
 reflect-requires c κs = search needs

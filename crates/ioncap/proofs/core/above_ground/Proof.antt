@@ -1,17 +1,7 @@
-use mathlib.Core.Path.{_≡_, refl, sym, ap, _∙_}
-use lib.IntN.{ℤ}
-use mir.Syntax.{w32}
-use mir.ValLaws.{toZ-ofZ}
-use lib.Ieee.{round, ofBits, neg}
 use Rattle.ioncap.specs.Core.{aboveGround}
 use borrow.Author.Needs.{needs}
 use Rattle.ioncap.proofs.core.above_ground.Statement.{statement}
 use Rattle.ioncap.proofs.core.above_ground.Tie as tie
-use Rattle.ioncap.proofs.core.above_ground.Reads as reads
-use Rattle.ioncap.proofs.core.above_ground.Lts as lts
-use Rattle.ioncap.proofs.cell.cell_gain.Reads as cell-gain-reads
-use Rattle.ioncap.proofs.core.up_for.Reads as up-for-reads
-use Rattle.ioncap.proofs.row.row_of.Reads as row-of-reads
 
 row-of-requires : tie.Need-row-of-requires
 row-of-requires c κs = search needs

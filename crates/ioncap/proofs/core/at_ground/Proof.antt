@@ -1,21 +1,13 @@
-use mathlib.Core.Path.{_≡_, refl, sym, ap, _∙_}
+use mathlib.Core.Path.{_≡_, ap, _∙_}
 use lib.IntN.{ℤ}
 use mir.Syntax.{w32}
 use mir.ValLaws.{toZ-ofZ}
 use Rattle.ioncap.specs.Cell.{looksUp}
-use Rattle.ioncap.specs.Finish.{groundOf}
-use lib.Ieee.{round, ofBits, neg}
+use Rattle.finish.specs.Finish.{groundOf}
 use Rattle.ioncap.specs.Core.{atGround}
 use borrow.Author.Needs.{needs}
 use Rattle.ioncap.proofs.core.at_ground.Statement.{statement}
 use Rattle.ioncap.proofs.core.at_ground.Tie as tie
-use Rattle.ioncap.proofs.core.at_ground.Reads as reads
-use Rattle.ioncap.proofs.core.at_ground.Lts as lts
-use Rattle.ioncap.proofs.cell.blend.Reads as blend-reads
-use Rattle.ioncap.proofs.cell.looks_up.Reads as looks-up-reads
-use Rattle.ioncap.proofs.cell.straight_up.Reads as straight-up-reads
-use Rattle.ioncap.proofs.finish.ground_gain.Reads as ground-gain-reads
-use Rattle.ioncap.proofs.row.row_of.Reads as row-of-reads
 
 ground-gain-requires : tie.Need-ground-gain-requires
 ground-gain-requires c κs = search needs

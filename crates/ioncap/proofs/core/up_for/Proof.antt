@@ -1,17 +1,12 @@
-use mathlib.Core.Path.{_≡_, refl, sym, ap, _∙_}
-use lib.IntN.{ℤ}
+use mathlib.Core.Path.{_≡_, ap, _∙_}
 use mir.Syntax.{w32}
 use mir.ValLaws.{toZ-ofZ}
 use Rattle.ioncap.specs.Cell.{looksUp}
-use lib.Ieee.{round, ofBits, neg}
+use lib.Ieee.{round, ofBits}
 use Rattle.ioncap.specs.Core.{upFor}
 use borrow.Author.Needs.{needs}
 use Rattle.ioncap.proofs.core.up_for.Statement.{statement}
 use Rattle.ioncap.proofs.core.up_for.Tie as tie
-use Rattle.ioncap.proofs.core.up_for.Reads as reads
-use Rattle.ioncap.proofs.core.up_for.Lts as lts
-use Rattle.ioncap.proofs.cell.looks_up.Reads as looks-up-reads
-use Rattle.ioncap.proofs.cell.straight_up.Reads as straight-up-reads
 
 looks-up-requires : tie.Need-looks-up-requires
 looks-up-requires c κs = search needs

@@ -1,16 +1,8 @@
-use mathlib.Core.Path.{_≡_, refl, sym, ap, _∙_}
-use lib.IntN.{ℤ}
-use mir.Syntax.{w32}
-use mir.ValLaws.{toZ-ofZ}
-use lib.Ieee.{round, ofBits, neg}
+use lib.Ieee.{round, ofBits}
 use Rattle.ioncap.specs.Core.{workOf}
 use borrow.Author.Needs.{needs}
 use Rattle.ioncap.proofs.core.work.Statement.{statement}
 use Rattle.ioncap.proofs.core.work.Tie as tie
-use Rattle.ioncap.proofs.core.work.Reads as reads
-use Rattle.ioncap.proofs.core.work.Lts as lts
-use Rattle.ioncap.proofs.core.above_ground.Reads as above-ground-reads
-use Rattle.ioncap.proofs.core.at_ground.Reads as at-ground-reads
 
 at-ground-requires : tie.Need-at-ground-requires
 at-ground-requires c κs = search needs

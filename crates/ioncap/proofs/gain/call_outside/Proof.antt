@@ -1,12 +1,7 @@
-use mathlib.Core.Path.{_∙_}
-use lib.Ieee.{round, ofBits, neg}
 use Rattle.ioncap.specs.Gain.{callOutside}
 use borrow.Author.Needs.{needs}
 use Rattle.ioncap.proofs.gain.call_outside.Statement.{statement}
 use Rattle.ioncap.proofs.gain.call_outside.Tie as tie
-use Rattle.ioncap.proofs.gain.call_outside.Reads as reads
-use Rattle.ioncap.proofs.gain.call_outside.Lts as lts
-use Rattle.limits.proofs.any_outside.Reads as any-outside-reads
 
 slice-aggregate-any-outside : tie.Need-slice-aggregate-any-outside
 slice-aggregate-any-outside c = search needs

@@ -1,4 +1,4 @@
-use mathlib.Core.Path.{_≡_, refl, sym, ap, _∙_}
+use mathlib.Core.Path.{ap, _∙_}
 use lib.IntN.{ℤ}
 use mir.Syntax.{w32}
 use mir.ValLaws.{toZ-ofZ}
@@ -9,12 +9,6 @@ use Rattle.ioncap.specs.Gain.{callRefusal}
 use borrow.Author.Needs.{needs}
 use Rattle.ioncap.proofs.gain.call_refusal.Statement.{statement}
 use Rattle.ioncap.proofs.gain.call_refusal.Tie as tie
-use Rattle.ioncap.proofs.gain.call_refusal.Reads as reads
-use Rattle.ioncap.proofs.gain.call_refusal.Lts as lts
-use Rattle.ioncap.proofs.gain.call_outside.Reads as call-outside-reads
-use Rattle.ioncap.proofs.gain.mhz_outside.Reads as mhz-outside-reads
-use Rattle.limits.proofs.is_finite.Reads as is-finite-reads
-use Rattle.limits.proofs.input_refusal.Reads as input-refusal-reads
 
 is-finite-requires : tie.Need-is-finite-requires
 is-finite-requires c κs = search needs

@@ -1,22 +1,14 @@
-use mathlib.Core.Path.{_≡_, refl, sym, ap, _∙_}
+use mathlib.Core.Path.{_≡_, ap, _∙_}
 use lib.IntN.{ℤ}
 use mir.Syntax.{w32}
 use mir.ValLaws.{toZ-ofZ}
-use borrow.Author.Tests.{ne-eqb, eq-eqb}
-use Rattle.ioncap.specs.Row.{antennaOf}
+use borrow.Author.Tests.{ne-eqb}
+use Rattle.patterns.specs.Row.{antennaOf}
 use Rattle.ioncap.specs.Gain.{callWork}
-use lib.Ieee.{round, ofBits, neg}
 use Rattle.ioncap.specs.Gain.{gainOf}
 use borrow.Author.Needs.{needs}
 use Rattle.ioncap.proofs.gain.gain_of.Statement.{statement}
 use Rattle.ioncap.proofs.gain.gain_of.Tie as tie
-use Rattle.ioncap.proofs.gain.gain_of.Reads as reads
-use Rattle.ioncap.proofs.gain.gain_of.Lts as lts
-use Rattle.elementary.proofs.sin_cos.Reads as sin-cos-reads
-use Rattle.ioncap.proofs.antenna.antenna_of.Reads as antenna-of-reads
-use Rattle.ioncap.proofs.core.work.Reads as work-reads
-use Rattle.ioncap.proofs.gain.call_refusal.Reads as call-refusal-reads
-use Rattle.reflection.proofs.elevation_of.Reads as elevation-of-reads
 
 call-refusal-requires : tie.Need-call-refusal-requires
 call-refusal-requires c κs = search needs

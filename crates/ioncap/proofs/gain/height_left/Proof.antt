@@ -3,8 +3,6 @@ use Rattle.ioncap.specs.Gain.{heightLeft}
 use borrow.Author.Needs.{needs}
 use Rattle.ioncap.proofs.gain.height_left.Statement.{statement}
 use Rattle.ioncap.proofs.gain.height_left.Tie as tie
-use Rattle.ioncap.proofs.gain.height_left.Reads as reads
-use Rattle.ioncap.proofs.gain.height_left.Lts as lts
 
 -- src/gain.rt:103:24
 enum-known-answer : tie.Need-enum-known-answer

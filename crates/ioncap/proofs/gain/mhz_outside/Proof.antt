@@ -1,14 +1,7 @@
-use mathlib.Core.Path.{_≡_, refl, sym, ap, _∙_}
-use lib.IntN.{ℤ}
-use mir.Syntax.{w32}
-use mir.ValLaws.{toZ-ofZ}
-use borrow.Author.Needs.{needs}
 use lib.Ieee.{round, ofBits}
 use Rattle.ioncap.specs.Gain.{mhzOutside}
 use Rattle.ioncap.proofs.gain.mhz_outside.Statement.{statement}
 use Rattle.ioncap.proofs.gain.mhz_outside.Tie as tie
-use Rattle.ioncap.proofs.gain.mhz_outside.Reads as reads
-use Rattle.ioncap.proofs.gain.mhz_outside.Lts as lts
 
 returns : tie.Need-returns
 unfolding mhzOutside round ofBits

@@ -1,0 +1,92 @@
+-- Document 01 section 4: the choice of pattern by type, as the match of `iongain2`. Definitions only.
+use mathlib.Core.Bool.{cond, _||_}
+use lib.ListN.{getD}
+use lib.Ieee.{Float, nan}
+use Rattle.single.specs.Single.{num}
+use Rattle.parameters.specs.Params.{isType}
+use Rattle.parameters.specs.Length.{legOf, heightOf}
+use Rattle.parameters.specs.declared.length.Length.{Length}
+use Rattle.reflection.specs.declared.angles.Azimuth.{Azimuth}
+use Rattle.reflection.specs.declared.angles.Elevation.{Elevation}
+use Rattle.reflection.specs.declared.ground.Ground.{Ground}
+use Rattle.rhombics.specs.Legs.{legsOf}
+use Rattle.rhombics.specs.Rhombic.{rhombicOf}
+use Rattle.rhombics.specs.Interlaced.{offsetOf, interlacedOf}
+use Rattle.slopes.specs.Slope.{veeSlope, rhombicSlope}
+use Rattle.slopes.specs.Vee.{veeRain}
+use Rattle.slopes.specs.Rhombic.{slopingRhombicRain}
+use Rattle.dipoles.specs.Row.{dipoleRow}
+use Rattle.dipoles.specs.Pattern.{dipoleRain}
+use Rattle.dipoles.specs.declared.row.DipoleRow.{DipoleRow}
+use Rattle.dipoles.specs.declared.row.DipoleRow.the-variants as D
+use Rattle.verticals.specs.Monopole.{monopoleRow, monopoleRain}
+use Rattle.verticals.specs.InvertedL.{invertedLRow, invertedLRain}
+use Rattle.verticals.specs.declared.monopole.MonopoleRow.{MonopoleRow}
+use Rattle.verticals.specs.declared.monopole.MonopoleRow.the-variants as M
+use Rattle.verticals.specs.declared.inverted_l.InvertedLRow.{InvertedLRow}
+use Rattle.verticals.specs.declared.inverted_l.InvertedLRow.the-variants as L
+use Rattle.curtain.specs.Card.{cardOf}
+use Rattle.curtain.specs.Row.{rowOf}
+use Rattle.patterns.specs.declared.antenna.Antenna.{Antenna}
+use Rattle.patterns.specs.declared.pattern.Pattern.{Pattern}
+use Rattle.patterns.specs.declared.pattern.Pattern.the-variants as P
+use Rattle.patterns.specs.declared.pattern.PatternAnswer.{PatternAnswer}
+use Rattle.patterns.specs.declared.pattern.PatternAnswer.the-variants.{Settled, Unsettled}
+
+-- a pattern that takes no integrals
+unfoldable pub settledAt : Pattern → PatternAnswer
+settledAt pattern = Settled pattern (record { ci = 0; si = 0 })
+
+abbrev pub ofDipole : DipoleRow → PatternAnswer
+ofDipole (D.Settled row turns) = Settled (P.Wire row) turns
+ofDipole D.Unsettled = Unsettled
+
+abbrev pub ofMonopole : MonopoleRow → PatternAnswer
+ofMonopole (M.Settled row turns) = Settled (P.Vertical row) turns
+ofMonopole M.Unsettled = Unsettled
+
+abbrev pub ofInvertedL : InvertedLRow → PatternAnswer
+ofInvertedL (L.Settled row turns) = Settled (P.Inverted row) turns
+ofInvertedL L.Unsettled = Unsettled
+
+unfoldable pub dipoleOf : Float → Float → PatternAnswer
+dipoleOf fac hwave = ofDipole (dipoleRow fac hwave)
+
+unfoldable pub monopoleFor : Length → Float → PatternAnswer
+monopoleFor leg wave = ofMonopole (monopoleRow leg wave)
+
+unfoldable pub invertedLOf : Float → Float → PatternAnswer
+invertedLOf fac hwave = ofInvertedL (invertedLRow fac hwave)
+
+-- what a row at this wavelength takes, by type
+unfoldable pub patternOf : Antenna → Float → PatternAnswer
+patternOf antenna wave =
+    let kop = antenna .kop in
+    let phi = antenna .params .and in
+    let aex = antenna .params .aex in
+    let azimuth = antenna .azimuth in
+    let leg = legOf (antenna .leg) wave in
+    let height = heightOf (antenna .height) wave in
+    let fac = leg .fac in
+    let hwave = height .hwave in
+    cond (isType kop 1) (settledAt (P.Rhombic (legsOf phi azimuth fac hwave)))
+    (cond (isType kop 10) (settledAt (P.Interlaced (legsOf phi azimuth fac hwave) (offsetOf (getD aex 0 nan) (getD aex 1 nan) wave)))
+    (cond (isType kop 8) (invertedLOf fac hwave)
+    (cond (isType kop 7) (settledAt (P.Vee (veeSlope (getD aex 0 nan) wave leg height phi azimuth)))
+    (cond (isType kop 9) (settledAt (P.SlopingRhombic (rhombicSlope (getD aex 0 nan) wave leg height phi azimuth)))
+    (cond (isType kop 6) (settledAt (P.Curtain (cardOf phi (getD aex 0 nan)) (rowOf fac (height .h1) aex azimuth wave)))
+    (cond (isType kop 3 || isType kop 4) (dipoleOf fac hwave)
+    (cond (isType kop 2 || isType kop 5) (monopoleFor (antenna .leg) wave)
+    (settledAt P.Other))))))))
+
+-- `rain` before label 385. The curtain's is in dB already: see `cellOf`
+unfoldable pub powerOf : Pattern → Azimuth → Elevation → Ground → Float
+powerOf (P.Rhombic legs) azimuth e ground = rhombicOf legs e ground
+powerOf (P.Interlaced legs offset) azimuth e ground = interlacedOf legs offset e ground
+powerOf (P.Vee slope) azimuth e ground = veeRain slope e ground
+powerOf (P.SlopingRhombic slope) azimuth e ground = slopingRhombicRain slope e ground
+powerOf (P.Curtain card row) azimuth e ground = num 0 1
+powerOf (P.Wire row) azimuth e ground = dipoleRain row azimuth e ground
+powerOf (P.Vertical row) azimuth e ground = monopoleRain row e ground
+powerOf (P.Inverted row) azimuth e ground = invertedLRain row azimuth e ground
+powerOf P.Other azimuth e ground = num 0 1

@@ -1,0 +1,34 @@
+// What a card or a gain call says of its antenna.
+ghost use mathlib.Core.Path.{_≡_};
+ghost use Rattle.patterns.specs.Row.{antennaOf};
+use parameters::IoncapParams;
+use parameters::Length;
+use parameters::Model;
+use reflection::Azimuth;
+
+// The leg and the height by kind, read from the parameters' `anl` and `anh`. Type 2's `anh` stays a
+// plain gain.
+pub struct Antenna {
+    pub kop: i32,
+    pub params: IoncapParams,
+    pub leg: Length,
+    pub height: Length,
+    pub azimuth: Azimuth,
+    pub model: Model,
+}
+
+pub fn antenna_of(kop: i32, toaz: f32, params: IoncapParams, model: Model) -> Antenna
+    ensures { λ r. ⌜ r ≡ antennaOf kop toaz params model ⌝ }
+{
+    let leg = parameters::read_length(params.anl);
+    let height = parameters::read_length(params.anh);
+    let azimuth = reflection::azimuth_of(toaz);
+    Antenna {
+        kop,
+        params,
+        leg,
+        height,
+        azimuth,
+        model,
+    }
+}
