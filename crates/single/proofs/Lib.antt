@@ -9,3 +9,4 @@ pub mod Units
 pub mod Positive
 pub mod Magnitude
 pub mod Bounded
+pub mod Floor
