@@ -4,6 +4,7 @@
 pub mod calls;
 pub mod elementary;
 pub mod gain_lines;
+pub mod lists_antenna;
 pub mod lists_curtain;
 pub mod lists_dipoles;
 pub mod lists_integrals;

@@ -2,6 +2,7 @@
 //! the lists and gives the form of a line.
 
 use oracle::elementary::{bits, FUNCTIONS};
+use oracle::lists_antenna;
 use oracle::lists_curtain;
 use oracle::lists_dipoles;
 use oracle::lists_integrals;
@@ -28,6 +29,7 @@ fn main() {
     };
     let written = match name.as_str() {
         "elementary" => elementary(&mut BufWriter::new(io::stdout().lock())),
+        "antenna" => lists_antenna::write(&mut BufWriter::new(io::stdout().lock())),
         "curtain" => lists_curtain::write(&mut BufWriter::new(io::stdout().lock())),
         "dipoles" => lists_dipoles::write(&mut BufWriter::new(io::stdout().lock())),
         "integrals" => lists_integrals::write(&mut BufWriter::new(io::stdout().lock())),

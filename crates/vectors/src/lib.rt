@@ -1,8 +1,8 @@
 // Reading the oracle's lists: hexadecimal fields and f32s by their bits.
 ghost use mathlib.Core.Path.{_≡_};
-ghost use Prim.Native.Nat.{_<_};
-ghost use lib.Ieee.{binary32, ofBits, toBits};
 ghost use Rattle.vectors.specs.Line.{digitOf, hexOf};
+pub use encoding::bits;
+pub use encoding::float;
 
 // A hexadecimal digit; any other byte counts as 0.
 pub fn digit(b: u8) -> u32
@@ -32,22 +32,4 @@ pub fn hex(field: &[u8]) -> u32
         k += 1;
     }
     n as u32
-}
-
-// The f32 with these bits: every NaN pattern is NaN.
-pub fn float(bits: u32) -> f32
-    ensures { λ x. ⌜ x ≡ ofBits binary32 bits ⌝ }
-{
-    if bits % 0x8000_0000 > 0x7f80_0000 {
-        0.0 / 0.0
-    } else {
-        f32::from_bits(bits)
-    }
-}
-
-// Its bits: one pattern, 7fc00000, for NaN.
-pub fn bits(x: f32) -> u32
-    ensures { λ n. ⌜ n ≡ toBits binary32 x ⌝ }
-{
-    if x == x { f32::to_bits(x) } else { 0x7fc0_0000 }
 }

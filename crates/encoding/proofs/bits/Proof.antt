@@ -2,8 +2,8 @@ use mathlib.Core.Path.{sym, ap}
 use lib.Ieee.{binary32, toBits}
 use Rattle.single.proofs.Sign.{no-nan, is-nan}
 use borrow.Author.Needs.{needs}
-use Rattle.vectors.proofs.bits.Statement.{statement}
-use Rattle.vectors.proofs.bits.Tie as tie
+use Rattle.encoding.proofs.bits.Statement.{statement}
+use Rattle.encoding.proofs.bits.Tie as tie
 
 float-to-bits-result : tie.Need-float-to-bits-result
 float-to-bits-result c = no-nan _ (c .if1 .taken)

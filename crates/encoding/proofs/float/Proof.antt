@@ -2,8 +2,8 @@ use mathlib.Core.Path.{sym}
 use lib.Ieee.{binary32, div, ofBits}
 use Rattle.single.proofs.Sign.{bits-no-nan, nan-bits}
 use borrow.Author.Needs.{needs}
-use Rattle.vectors.proofs.float.Statement.{statement}
-use Rattle.vectors.proofs.float.Tie as tie
+use Rattle.encoding.proofs.float.Statement.{statement}
+use Rattle.encoding.proofs.float.Tie as tie
 
 float-from-bits-result : tie.Need-float-from-bits-result
 float-from-bits-result c = bits-no-nan binary32 _ (c .if1 .left)

@@ -1,0 +1,6 @@
+pub mod Bounds
+pub mod Cuts
+pub mod Accepted
+pub mod Cards
+pub mod ConeTable
+pub mod ByteTables

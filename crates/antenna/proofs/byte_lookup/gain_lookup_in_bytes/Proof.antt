@@ -1,0 +1,46 @@
+use mathlib.Core.Path.{sym, _∙_}
+use borrow.Author.Tests.{eq-eqb, ne-eqb}
+use Rattle.antenna.specs.Lookups.{lookupNumber, lookupValues, gainLookupValues}
+use Rattle.antenna.proofs.Bounds.{low-in, high-in}
+use Rattle.antenna.proofs.ByteTables.{table-of, bytes-accepted}
+use borrow.Author.Needs.{needs}
+use Rattle.antenna.proofs.byte_lookup.gain_lookup_in_bytes.Statement.{statement}
+use Rattle.antenna.proofs.byte_lookup.gain_lookup_in_bytes.Tie as tie
+
+bytes-refusal-requires : tie.Need-bytes-refusal-requires
+bytes-refusal-requires c κs = search needs
+
+returns : tie.Need-returns
+unfolding lookupNumber lookupValues gainLookupValues
+returns c = (c .before .bytes-refusal .ensures, rw (← c .before .bytes-refusal .ensures, ne-eqb _ 0 (c .if1 .taken)))
+
+locate-requires : tie.Need-locate-requires
+locate-requires c κs = bytes-accepted _ _ _ (sym (c .before .bytes-refusal .ensures) ∙ c .if1 .left) .1
+
+byte-row-at-requires : tie.Need-byte-row-at-requires
+byte-row-at-requires c κs = (bytes-accepted _ _ _ (sym (c .before .before .bytes-refusal .ensures) ∙ c .before .if1 .left) .0, rw (c .locate .ensures) (low-in _ _))
+
+byte-row-at-requires-2 : tie.Need-byte-row-at-requires-2
+byte-row-at-requires-2 c κs = (bytes-accepted _ _ _ (sym (c .before .before .before .bytes-refusal .ensures) ∙ c .before .before .if1 .left) .0, rw (c .before .locate .ensures) (high-in _ _))
+
+blend-requires : tie.Need-blend-requires
+blend-requires c κs = search needs
+
+returns-2 : tie.Need-returns-2
+unfolding lookupNumber lookupValues gainLookupValues
+returns-2 c = (
+  sym (c .before .before .before .before .if1 .left) ∙ c .before .before .before .before .before .bytes-refusal .ensures,
+  rw (← c .before .before .before .before .before .bytes-refusal .ensures, eq-eqb _ 0 (c .before .before .before .before .if1 .left), table-of _ (bytes-accepted _ _ _ (sym (c .before .before .before .before .before .bytes-refusal .ensures) ∙ c .before .before .before .before .if1 .left) .0), ← c .before .before .before .locate .ensures, ← c .before .before .byte-row-at .ensures, ← c .before .byte-row-at2 .ensures, ← c .blend .ensures),
+)
+
+pub gain-lookup-in-bytes-spec : {M : Type 1} → statement M
+gain-lookup-in-bytes-spec =
+    tie.close
+    (tie.spec
+    bytes-refusal-requires
+    returns
+    locate-requires
+    byte-row-at-requires
+    byte-row-at-requires-2
+    blend-requires
+    returns-2)

@@ -1,0 +1,46 @@
+use mathlib.Core.Path.{sym, _∙_}
+use borrow.Author.Tests.{eq-eqb, ne-eqb}
+use Rattle.antenna.specs.Lookups.{lookupNumber, lookupValues, gainLookupValues}
+use Rattle.antenna.proofs.Accepted.{accepted}
+use Rattle.antenna.proofs.Bounds.{low-in, high-in}
+use borrow.Author.Needs.{needs}
+use Rattle.antenna.proofs.lookups.gain_lookup.Statement.{statement}
+use Rattle.antenna.proofs.lookups.gain_lookup.Tie as tie
+
+lookup-refusal-requires : tie.Need-lookup-refusal-requires
+lookup-refusal-requires c κs = search needs
+
+returns : tie.Need-returns
+unfolding lookupNumber lookupValues gainLookupValues
+returns c = (c .before .lookup-refusal .ensures, rw (← c .before .lookup-refusal .ensures, ne-eqb _ 0 (c .if1 .taken)))
+
+locate-requires : tie.Need-locate-requires
+locate-requires c κs = accepted _ _ _ (sym (c .before .lookup-refusal .ensures) ∙ c .if1 .left) .1
+
+row-at-requires : tie.Need-row-at-requires
+row-at-requires c κs = (accepted _ _ _ (sym (c .before .before .lookup-refusal .ensures) ∙ c .before .if1 .left) .0, rw (c .locate .ensures) (low-in _ _))
+
+row-at-requires-2 : tie.Need-row-at-requires-2
+row-at-requires-2 c κs = (accepted _ _ _ (sym (c .before .before .before .lookup-refusal .ensures) ∙ c .before .before .if1 .left) .0, rw (c .before .locate .ensures) (high-in _ _))
+
+blend-requires : tie.Need-blend-requires
+blend-requires c κs = search needs
+
+returns-2 : tie.Need-returns-2
+unfolding lookupNumber lookupValues gainLookupValues
+returns-2 c = (
+  sym (c .before .before .before .before .if1 .left) ∙ c .before .before .before .before .before .lookup-refusal .ensures,
+  rw (← c .before .before .before .before .before .lookup-refusal .ensures, eq-eqb _ 0 (c .before .before .before .before .if1 .left), ← c .before .before .before .locate .ensures, ← c .before .before .row-at .ensures, ← c .before .row-at2 .ensures, ← c .blend .ensures),
+)
+
+pub gain-lookup-spec : {M : Type 1} → statement M
+gain-lookup-spec =
+    tie.close
+    (tie.spec
+    lookup-refusal-requires
+    returns
+    locate-requires
+    row-at-requires
+    row-at-requires-2
+    blend-requires
+    returns-2)

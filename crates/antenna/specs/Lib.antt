@@ -1,0 +1,5 @@
+pub mod Places
+pub mod Rows
+pub mod Lookups
+pub mod InvertedCone
+pub mod ByteTables

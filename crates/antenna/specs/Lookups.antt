@@ -1,0 +1,58 @@
+-- Document 01 section 9: `gain_lookup`, a card's lookup, and their refusals. Definitions only.
+use Prim.Native.Nat.{ℕ}
+use mathlib.Core.Bool.{not, cond, _&&_}
+use mathlib.Core.List.{List, [], _∷_}
+use lib.Dec.{eqb}
+use lib.IntN.{ℤ}
+use lib.Ieee.{Float}
+use Rattle.single.specs.Single.{num}
+use Rattle.limits.specs.Refusals.{firstRefusal}
+use Rattle.limits.specs.Tests.{anyOutside, numbersTest, mhzTest}
+use Rattle.table.specs.Range.{isRange}
+use Rattle.table.specs.Table.{lengthTest}
+use Rattle.antenna.specs.Places.{placeOf}
+use Rattle.antenna.specs.Rows.{rowOf, filledRow, blended}
+use Rattle.antenna.specs.declared.lookups.Lookup.{Lookup}
+use Rattle.antenna.specs.declared.lookups.Lookup.the-variants.{Accepted, Refused}
+use Rattle.antenna.specs.declared.places.Place.{Place}
+use Rattle.antenna.specs.declared.rows.GainEfficiency.{GainEfficiency}
+use Rattle.antenna.specs.declared.rows.Row.{Row}
+
+abbrev pub zeros : GainEfficiency
+zeros = record { gain = num 0 1; efficiency = num 0 1 }
+
+-- document 01's number and values for each case of an answer
+unfoldable pub lookupNumber : Lookup → ℕ
+lookupNumber (Accepted v) = 0
+lookupNumber (Refused n) = n
+
+unfoldable pub lookupValues : Lookup → GainEfficiency
+lookupValues (Accepted v) = v
+lookupValues (Refused n) = zeros
+
+-- 7, then 2 of the MHz and the elevation looked up
+unfoldable pub lookupRefusal : List Float → Float → Float → ℕ
+lookupRefusal t fmc delta = firstRefusal (lengthTest t ∷ numbersTest (anyOutside (fmc ∷ delta ∷ [])) ∷ [])
+
+-- then 4, of an accepted card
+unfoldable pub cardRefusal : ℤ → ℤ → ℕ → List Float → Float → Float → ℕ
+cardRefusal first last verdict t fmc delta =
+    firstRefusal (lengthTest t ∷ numbersTest (anyOutside (fmc ∷ delta ∷ [])) ∷ mhzTest (eqb verdict 0 && not (isRange first last)) ∷ [])
+
+-- the blend of two rows at a place
+abbrev pub blendedAt : Place → (ℕ → ℕ → ℕ → Row) → GainEfficiency
+blendedAt p row = blended (row (p .i) (p .j) (p .jp1)) (row (p .ip1) (p .j) (p .jp1)) (p .xfmc) (p .xdelta)
+
+abbrev pub gainLookupNumber : List Float → Float → Float → ℕ
+gainLookupNumber t fmc delta = lookupRefusal t fmc delta
+
+unfoldable pub gainLookupValues : List Float → Float → Float → GainEfficiency
+gainLookupValues t fmc delta = cond (eqb (lookupRefusal t fmc delta) 0) (blendedAt (placeOf fmc delta) (rowOf t)) zeros
+
+abbrev pub cardLookupNumber : ℤ → ℤ → ℕ → List Float → Float → Float → ℕ
+cardLookupNumber first last verdict t fmc delta = cardRefusal first last verdict t fmc delta
+
+-- zeros of a refused card too, whose number is 0
+unfoldable pub cardLookupValues : ℤ → ℤ → ℕ → List Float → Float → Float → GainEfficiency
+cardLookupValues first last verdict t fmc delta =
+    cond (eqb (cardRefusal first last verdict t fmc delta) 0 && eqb verdict 0) (blendedAt (placeOf fmc delta) (filledRow first last t)) zeros

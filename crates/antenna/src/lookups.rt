@@ -1,0 +1,102 @@
+// `gain_lookup`, and the lookup of a card's table.
+ghost use mathlib.Core.Path.{_≡_};
+ghost use Rattle.antenna.specs.Lookups.{lookupRefusal, cardRefusal, lookupNumber, lookupValues};
+ghost use Rattle.antenna.specs.Lookups.{gainLookupNumber, gainLookupValues, cardLookupNumber, cardLookupValues};
+use crate::places::Place;
+use crate::places::locate;
+use crate::rows::GainEfficiency;
+use crate::rows::blend;
+use crate::rows::card_row;
+use crate::rows::row_at;
+
+pub enum Lookup {
+    Accepted(GainEfficiency),
+    Refused(u32),
+}
+
+fn lookup_refusal(table: &[f32], fmc: f32, delta: f32) -> u32
+    ensures { λ r. ⌜ r ≡ lookupRefusal (now (table .entry)) fmc delta ⌝ }
+{
+    if !table::is_table(table) {
+        return 7;
+    }
+    let numbers = [fmc, delta];
+    if limits::any_outside(&numbers) {
+        return 2;
+    }
+    0
+}
+
+// A refused card's first and last MHz are not looked at.
+fn card_refusal(first: i32, last: i32, verdict: u32, table: &[f32], fmc: f32, delta: f32) -> u32
+    ensures { λ r. ⌜ r ≡ cardRefusal first last verdict (now (table .entry)) fmc delta ⌝ }
+{
+    let refusal = lookup_refusal(table, fmc, delta);
+    if refusal != 0 {
+        return refusal;
+    }
+    if verdict == 0 {
+        if !table::is_range(first, last) {
+            return 4;
+        }
+    }
+    0
+}
+
+// At fmc MHz and an elevation of delta radians.
+pub fn gain_lookup(table: &[f32], fmc: f32, delta: f32) -> Lookup
+    ensures { λ r. ⌜ lookupNumber r ≡ gainLookupNumber (now (table .entry)) fmc delta ⌝ }
+    ensures { λ r. ⌜ lookupValues r ≡ gainLookupValues (now (table .entry)) fmc delta ⌝ }
+{
+    let refusal = lookup_refusal(table, fmc, delta);
+    if refusal != 0 {
+        return Lookup::Refused(refusal);
+    }
+    let Place {
+        i,
+        ip1,
+        xfmc,
+        j,
+        jp1,
+        xdelta,
+    } = locate(fmc, delta);
+    let low = row_at(table, i, j, jp1);
+    let high = row_at(table, ip1, j, jp1);
+    Lookup::Accepted(blend(low, high, xfmc, xdelta))
+}
+
+// By the card's first and last MHz and its verdict: rows that it did not fill count as zeros, and a
+// refused card gives zeros.
+pub fn card_lookup(
+    first: i32,
+    last: i32,
+    verdict: u32,
+    table: &[f32],
+    fmc: f32,
+    delta: f32,
+) -> Lookup
+    ensures { λ r. ⌜ lookupNumber r ≡ cardLookupNumber first last verdict (now (table .entry)) fmc delta ⌝ }
+    ensures { λ r. ⌜ lookupValues r ≡ cardLookupValues first last verdict (now (table .entry)) fmc delta ⌝ }
+{
+    let refusal = card_refusal(first, last, verdict, table, fmc, delta);
+    if refusal != 0 {
+        return Lookup::Refused(refusal);
+    }
+    if verdict != 0 {
+        return Lookup::Accepted(GainEfficiency {
+            gain: 0.0,
+            efficiency: 0.0,
+        });
+    }
+    let Place {
+        i,
+        ip1,
+        xfmc,
+        j,
+        jp1,
+        xdelta,
+    } = locate(fmc, delta);
+    let low = card_row(first, last, table, i, j, jp1);
+    let high = card_row(first, last, table, ip1, j, jp1);
+    Lookup::Accepted(blend(low, high, xfmc, xdelta))
+}
