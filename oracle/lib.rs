@@ -1,12 +1,12 @@
 //! The oracle: the upstream antenna models built over document 01's
 //! elementary functions. See `oracle/README.md`.
 
-pub mod calls;
 pub mod elementary;
-pub mod gain_lines;
+pub mod gain_calls;
 pub mod lists_antenna;
 pub mod lists_curtain;
 pub mod lists_dipoles;
+pub mod lists_gains;
 pub mod lists_integrals;
 pub mod lists_output;
 pub mod lists_parameters;

@@ -1,10 +1,9 @@
-//! The list `curtain`: type 6, by the derived upstream `iongain2` whole.
+//! Type 6 above the ground: calls for the list `gains`.
 
-use crate::gain_lines::{
-    around, length, line, one_of, station, within_limits, Call, DEGREE, EDGES, PIO2,
+use crate::gain_calls::{
+    around, length, number, station, within_limits, Call, DEGREE, EDGES, PIO2,
 };
 use crate::splitmix::SplitMix64;
-use std::io::{self, Write};
 
 const SEED: u64 = 0x1983_0115;
 
@@ -13,28 +12,27 @@ const STATIONS: usize = 400;
 const WITHIN_LIMITS: usize = 150;
 
 /// Fractional, odd, even, negative and no bays, up to the limit.
-const BAYS: [f32; 20] = [
-    0.5, 1.5, 2.5, -1.0, -3.0, 0.0, -0.0, -2.0, 63.5, 64.0, 63.0, 62.0, 1.0e-45, -1.0e-45, 1.0,
-    2.0, 3.0, 4.0, 5.0, -0.5,
+const BAYS: [f32; 21] = [
+    -1_000.0, 0.5, 1.5, 2.5, -1.0, -3.0, 0.0, -0.0, -2.0, 63.5, 64.0, 63.0, 62.0, 1.0e-45,
+    -1.0e-45, 1.0, 2.0, 3.0, 4.0, 5.0, -0.5,
 ];
 
 /// Negative counts as ten, unless the cut gives 0.
-const ELEMENTS: [f32; 14] = [
-    -1.0, -0.5, 0.5, 12.0, 1_000.0, 0.0, -0.0, 10.0, 11.0, 9.9, -1_000.0, 1.0, 2.0, 4.0,
+const ELEMENTS: [f32; 16] = [
+    8.0, -2.0, -1.0, -0.5, 0.5, 12.0, 1_000.0, 0.0, -0.0, 10.0, 11.0, 9.9, -1_000.0, 1.0, 2.0, 4.0,
 ];
 
-pub fn write(out: &mut impl Write) -> io::Result<()> {
+pub fn calls() -> Vec<Call> {
     let mut random = SplitMix64::new(SEED);
-    for _ in 0..STATIONS {
-        line(out, &curtain(&mut random))?;
-    }
-    for _ in 0..WITHIN_LIMITS {
-        line(out, &any_curtain(&mut random))?;
-    }
-    for call in directed(&mut random) {
-        line(out, &call)?;
-    }
-    out.flush()
+    let mut list = Vec::new();
+    list.extend((0..STATIONS).map(|_| curtain(&mut random)));
+    list.extend((0..WITHIN_LIMITS).map(|_| any_curtain(&mut random)));
+    list.extend(counts(&mut random));
+    list.extend(thresholds(&mut random));
+    list.extend(spacings(&mut random));
+    list.extend(not_a_number(&mut random));
+    list.extend(edges(&mut random));
+    list
 }
 
 /// Mostly below the threshold of the model 0, else of any.
@@ -56,21 +54,11 @@ fn curtain(random: &mut SplitMix64) -> Call {
     call
 }
 
-/// Up to 64 bays.
+/// Up to 64 bays, any model.
 fn any_curtain(random: &mut SplitMix64) -> Call {
     let mut call = within_limits(random, 6);
     call.model = (random.next_u32() % 4) as usize;
-    call.p.and = random.between(-1_000.0, 1_000.0).min(64.0);
     call
-}
-
-fn directed(random: &mut SplitMix64) -> Vec<Call> {
-    let mut list = counts(random);
-    list.extend(thresholds(random));
-    list.extend(spacings(random));
-    list.extend(not_a_number(random));
-    list.extend(edges(random));
-    list
 }
 
 /// Both in the pattern, at 0.5 rad, and on the floor, at 1.0.
@@ -155,20 +143,13 @@ fn not_a_number(random: &mut SplitMix64) -> Vec<Call> {
     list
 }
 
-/// Each number of a call at each edge; bays that are infinite would not end.
+/// Azimuth, leg, height and extras at each edge.
 fn edges(random: &mut SplitMix64) -> Vec<Call> {
     let mut list = Vec::new();
     for edge in EDGES {
-        for place in 0..9 {
+        for place in [0, 4, 5, 6, 7, 8, 9] {
             let mut call = curtain(random);
-            match place {
-                0 => call.p.and = edge.min(one_of(random, &[3.0, 64.0])),
-                1 => call.p.anl = edge,
-                2 => call.p.anh = edge,
-                3..=6 => call.p.aex[place - 3] = edge,
-                7 => call.toaz = edge,
-                _ => call.delta = if edge <= 0.0 { PIO2 } else { edge },
-            }
+            *number(&mut call, place) = edge;
             list.push(call);
         }
     }

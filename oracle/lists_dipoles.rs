@@ -1,12 +1,10 @@
-//! The list `dipoles`: types 3 and 4, one call each, before the blend with the
-//! straight-up gain.
+//! Types 3 and 4: calls for the list `gains`.
 
 // The decimals are upstream's own.
 #![allow(clippy::approx_constant, clippy::excessive_precision)]
 
-use crate::calls::{lines, one_of, outside_limits, station, within_limits, Call, Field};
+use crate::gain_calls::{in_waves, one_of, station, within_limits, Call};
 use crate::splitmix::SplitMix64;
-use std::io::{self, Write};
 
 const SEED: u64 = 0x1983_0115;
 
@@ -14,7 +12,7 @@ const SEED: u64 = 0x1983_0115;
 const STATIONS: usize = 260;
 const ANY: usize = 40;
 
-pub fn write(out: &mut impl Write) -> io::Result<()> {
+pub fn calls() -> Vec<Call> {
     let mut random = SplitMix64::new(SEED);
     let mut list = Vec::new();
     for kop in [3, 4] {
@@ -22,39 +20,32 @@ pub fn write(out: &mut impl Write) -> io::Result<()> {
         list.extend((0..ANY).map(|_| within_limits(&mut random, kop)));
         list.extend(at_edges(&mut random, kop));
         list.extend(along_the_wire(&mut random, kop));
-        let fields: [Field; 4] = [
-            |c| &mut c.anl,
-            |c| &mut c.anh,
-            |c| &mut c.aex1,
-            |c| &mut c.toaz,
-        ];
-        list.extend(outside_limits(&antenna(&mut random, kop), &fields));
     }
-    lines(out, &list)
+    list
 }
 
 /// Legs and heights in metres or in wavelengths, with dB added or not.
 fn antenna(random: &mut SplitMix64, kop: i32) -> Call {
     let mut call = station(random, kop);
-    let units = [299.7925 / call.fmc, -1.0];
-    call.anl = random.between(0.02, 2.0) * one_of(random, &units);
-    call.anh = random.between(0.0, 1.5) * one_of(random, &units);
-    call.aex1 = one_of(random, &[0.0, 0.0, -0.0, 3.5, 40.0, -20.0]);
+    call.p.anl = in_waves(random, 0.02, 2.0, call.fmc);
+    call.p.anh = in_waves(random, 0.0, 1.5, call.fmc);
+    call.p.aex[0] = one_of(random, &[0.0, 0.0, -0.0, 3.5, 40.0, -20.0]);
     call
 }
 
 /// Each leg as it is, with 100 dB added (a power that is no number is -50 dB,
-/// which then stays off the floor), and straight up.
+/// which then stays off the floor), straight up, on the ground and below it.
 fn at_edges(random: &mut SplitMix64, kop: i32) -> Vec<Call> {
     let mut list = Vec::new();
     for anl in legs() {
         let mut call = antenna(random, kop);
-        call.anl = anl;
+        call.p.anl = anl;
         let mut higher = call;
-        higher.aex1 = 100.0;
+        higher.p.aex[0] = 100.0;
         let mut straight_up = call;
         (straight_up.toaz, straight_up.delta) = (0.0, 1.570796);
         list.extend([call, higher, straight_up]);
+        list.extend([0.0, -0.0, -0.7].map(|delta| Call { delta, ..call }));
     }
     list
 }

@@ -1,62 +1,29 @@
-//! The list `rhombics`: gains of types 1 and 10 above the ground, by the
-//! derived upstream `iongain2` whole: soil, reflection, pattern and `finish`.
+//! Types 1 and 10 above the ground: calls for the list `gains`.
 
-use crate::elementary::bits;
-use crate::ioncap::{iongain2, IoncapParams, IoncapState};
-use crate::model::Model;
+use crate::gain_calls::{number, within_limits, Call, EDGES};
+use crate::ioncap::IoncapParams;
 use crate::splitmix::SplitMix64;
 use crate::standins::StandIn;
 use std::f32::consts::{FRAC_PI_2, PI};
-use std::io::{self, Write};
 
 const SEED: u64 = 0x1983_0115;
 
 /// Random calls of each kind for each type.
 const ORDINARY: usize = 250;
-const WITHIN_LIMITS: usize = 150;
+const WITHIN_LIMITS: usize = 100;
 
-/// A gain call's numbers.
-#[derive(Clone, Copy)]
-struct Call {
-    toaz: f32,
-    p: IoncapParams,
-    delta: f32,
-    fmc: f32,
+/// The same calls for both types.
+pub fn calls() -> Vec<Call> {
+    let list = rhombics();
+    let interlaced = list.iter().map(|call| Call { kop: 10, ..*call });
+    list.iter().copied().chain(interlaced).collect()
 }
 
-pub fn write(out: &mut impl Write) -> io::Result<()> {
-    for kop in [1, 10] {
-        for call in calls() {
-            line(out, kop, &call)?;
-        }
-    }
-    out.flush()
-}
-
-fn line(out: &mut impl Write, kop: i32, call: &Call) -> io::Result<()> {
-    let Call {
-        toaz,
-        p,
-        delta,
-        fmc,
-    } = *call;
-    let mut state = IoncapState::default();
-    let (gain, eff) = iongain2(&mut state, kop, toaz, &p, delta, fmc, Model::Compatible);
-    let [ex1, ex2, ..] = p.aex;
-    write!(out, "{kop:02}")?;
-    for x in [
-        toaz, p.asig, p.aeps, p.and, p.anl, p.anh, ex1, ex2, delta, fmc, gain, eff,
-    ] {
-        write!(out, " {:08x}", bits(x))?;
-    }
-    writeln!(out)
-}
-
-fn calls() -> Vec<Call> {
+fn rhombics() -> Vec<Call> {
     let mut random = SplitMix64::new(SEED);
     let mut list = Vec::new();
     list.extend((0..ORDINARY).map(|_| ordinary(&mut random)));
-    list.extend((0..WITHIN_LIMITS).map(|_| within_limits(&mut random)));
+    list.extend((0..WITHIN_LIMITS).map(|_| within_limits(&mut random, 1)));
     list.extend(zero_divisors());
     list.extend(little_ground());
     list.extend(brewster());
@@ -70,6 +37,9 @@ fn calls() -> Vec<Call> {
 /// to the gain, which lifts weak gains off the floor.
 fn rhombic() -> Call {
     Call {
+        kop: 1,
+        model: 0,
+        height: 0.0,
         toaz: 3.0,
         p: IoncapParams {
             asig: 0.01,
@@ -102,42 +72,18 @@ fn over(aeps: f32, asig: f32, delta: f32, fmc: f32) -> [Call; 2] {
 fn ordinary(random: &mut SplitMix64) -> Call {
     let sign = [1.0, 1.0, -0.02][(random.next_u32() % 3) as usize];
     let size = [5.0, 0.1, 0.01, 0.001][(random.next_u32() % 4) as usize];
-    Call {
-        toaz: random.between(-25.0, 25.0),
-        p: IoncapParams {
-            asig: random.between(0.1, 1.0) * size,
-            aeps: random.between(1.0, 81.0),
-            and: random.between(40.0, 80.0),
-            anl: random.between(20.0, 150.0) * sign,
-            anh: random.between(5.0, 60.0) * sign,
-            aex: [
-                random.between(0.0, 30.0),
-                random.between(0.0, 30.0),
-                0.0,
-                0.0,
-            ],
-        },
-        delta: random.between(0.01, FRAC_PI_2),
-        fmc: random.between(1.0, 30.0),
-    }
-}
-
-/// Any number that isn't refused, at an elevation above 0.
-fn within_limits(random: &mut SplitMix64) -> Call {
-    let mut any = || random.between(-1_000.0, 1_000.0);
-    Call {
-        toaz: any(),
-        p: IoncapParams {
-            asig: any().abs(),
-            aeps: any(),
-            and: any(),
-            anl: any(),
-            anh: any(),
-            aex: [any(), any(), 0.0, 0.0],
-        },
-        delta: any().abs(),
-        fmc: random.between(1.0, 30.0),
-    }
+    let mut call = rhombic();
+    call.toaz = random.between(-25.0, 25.0);
+    call.p.asig = random.between(0.1, 1.0) * size;
+    call.p.aeps = random.between(1.0, 81.0);
+    call.p.and = random.between(40.0, 80.0);
+    call.p.anl = random.between(20.0, 150.0) * sign;
+    call.p.anh = random.between(5.0, 60.0) * sign;
+    call.p.aex[0] = random.between(0.0, 30.0);
+    call.p.aex[1] = random.between(0.0, 30.0);
+    call.delta = random.between(0.01, FRAC_PI_2);
+    call.fmc = random.between(1.0, 30.0);
+    call
 }
 
 /// Type 10 without an offset, d = 0; and u1 or u2 = 0, where the cosine of
@@ -292,26 +238,13 @@ fn directions() -> Vec<Call> {
     list
 }
 
-/// Each number at the ends of its range and at zero.
+/// Each number at the edges, and the greatest and least ground.
 fn ends() -> Vec<Call> {
     let mut list = Vec::new();
-    for end in [1_000.0, -1_000.0, 0.0, -0.0] {
-        list.push(Call {
-            toaz: end,
-            ..rhombic()
-        });
-        for field in 0..6 {
+    for end in EDGES {
+        for place in [0, 2, 3, 4, 5, 6, 7] {
             let mut call = rhombic();
-            let p = &mut call.p;
-            let place = match field {
-                0 => &mut p.aeps,
-                1 => &mut p.and,
-                2 => &mut p.anl,
-                3 => &mut p.anh,
-                4 => &mut p.aex[0],
-                _ => &mut p.aex[1],
-            };
-            *place = end;
+            *number(&mut call, place) = end;
             list.push(call);
         }
     }

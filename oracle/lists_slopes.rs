@@ -1,8 +1,7 @@
-//! The list `slopes`: types 7 and 9.
+//! Types 7 and 9 above the ground: calls for the list `gains`.
 
-use crate::calls::{lines, one_of, outside_limits, station, within_limits, Call, Field};
+use crate::gain_calls::{in_waves, station, within_limits, Call};
 use crate::splitmix::SplitMix64;
-use std::io::{self, Write};
 
 const SEED: u64 = 0x1983_0115;
 
@@ -10,34 +9,25 @@ const SEED: u64 = 0x1983_0115;
 const STATIONS: usize = 320;
 const ANY: usize = 40;
 
-pub fn write(out: &mut impl Write) -> io::Result<()> {
+pub fn calls() -> Vec<Call> {
     let mut random = SplitMix64::new(SEED);
     let mut list = Vec::new();
     for kop in [7, 9] {
         list.extend((0..STATIONS).map(|_| antenna(&mut random, kop)));
         list.extend((0..ANY).map(|_| within_limits(&mut random, kop)));
         list.extend(at_edges(&mut random, kop));
-        let fields: [Field; 5] = [
-            |c| &mut c.and,
-            |c| &mut c.anl,
-            |c| &mut c.anh,
-            |c| &mut c.aex1,
-            |c| &mut c.toaz,
-        ];
-        list.extend(outside_limits(&antenna(&mut random, kop), &fields));
-        list.push(half_turn(kop));
+        list.push(half_turn(&mut random, kop));
     }
-    lines(out, &list)
+    list
 }
 
 /// Legs and heights in metres or in wavelengths.
 fn antenna(random: &mut SplitMix64, kop: i32) -> Call {
     let mut call = station(random, kop);
-    let units = [299.7925 / call.fmc, -1.0];
-    call.and = random.between(5.0, 60.0);
-    call.anl = random.between(0.3, 8.0) * one_of(random, &units);
-    call.anh = random.between(0.05, 1.5) * one_of(random, &units);
-    call.aex1 = random.between(0.01, 1.0) * one_of(random, &units);
+    call.p.and = random.between(5.0, 60.0);
+    call.p.anl = in_waves(random, 0.3, 8.0, call.fmc);
+    call.p.anh = in_waves(random, 0.05, 1.5, call.fmc);
+    call.p.aex[0] = in_waves(random, 0.01, 1.0, call.fmc);
     call
 }
 
@@ -48,7 +38,7 @@ fn at_edges(random: &mut SplitMix64, kop: i32) -> Vec<Call> {
         for (toaz, delta) in [(0.0, 0.3), (-35.0, 1.1), (0.0, 0.0001)] {
             let mut call = station(random, kop);
             (call.toaz, call.delta) = (toaz, delta);
-            (call.and, call.anl, call.anh, call.aex1) = (and, anl, anh, aex1);
+            (call.p.and, call.p.anl, call.p.anh, call.p.aex[0]) = (and, anl, anh, aex1);
             list.push(call);
         }
     }
@@ -87,17 +77,10 @@ fn edges() -> Vec<(f32, f32, f32, f32)> {
 }
 
 /// Here one step in the scalar PI shows in type 9: 3.1415926, not the nearest.
-fn half_turn(kop: i32) -> Call {
-    Call {
-        kop,
-        toaz: 0.0,
-        asig: 0.01,
-        aeps: 4.0,
-        and: 45.0,
-        anl: -2.0,
-        anh: -0.5,
-        aex1: -0.5,
-        delta: 0.25,
-        fmc: 1.0,
-    }
+fn half_turn(random: &mut SplitMix64, kop: i32) -> Call {
+    let mut call = station(random, kop);
+    (call.toaz, call.delta, call.fmc) = (0.0, 0.25, 1.0);
+    (call.p.asig, call.p.aeps) = (0.01, 4.0);
+    (call.p.and, call.p.anl, call.p.anh, call.p.aex[0]) = (45.0, -2.0, -0.5, -0.5);
+    call
 }

@@ -1,9 +1,11 @@
-//! The list `verticals`: monopole and log-periodic (types 2 and 5) and
-//! inverted L (type 8), by the derived upstream `iongain2` whole.
+//! Monopole and log-periodic (types 2 and 5) and inverted L (type 8) above
+//! the ground: calls for the list `gains`.
 
-use crate::gain_lines::{around, length, line, station, within_limits, Call, DEGREE, EDGES, PIO2};
+use crate::gain_calls::{
+    around, length, number, station, within_limits, Call, DEGREE, EDGES, PIO2,
+};
 use crate::splitmix::SplitMix64;
-use std::io::{self, Write};
+use std::f32::consts::TAU;
 
 const SEED: u64 = 0x1983_0115;
 
@@ -11,20 +13,18 @@ const SEED: u64 = 0x1983_0115;
 const STATIONS: usize = 280;
 const WITHIN_LIMITS: usize = 100;
 
-pub fn write(out: &mut impl Write) -> io::Result<()> {
+pub fn calls() -> Vec<Call> {
     let mut random = SplitMix64::new(SEED);
+    let mut list = Vec::new();
     for kop in [2, 5, 8] {
-        for _ in 0..STATIONS {
-            line(out, &vertical(&mut random, kop))?;
-        }
-        for _ in 0..WITHIN_LIMITS {
-            line(out, &within_limits(&mut random, kop))?;
-        }
-        for call in directed(&mut random, kop) {
-            line(out, &call)?;
-        }
+        list.extend((0..STATIONS).map(|_| vertical(&mut random, kop)));
+        list.extend((0..WITHIN_LIMITS).map(|_| within_limits(&mut random, kop)));
+        list.extend(edges(&mut random, kop));
+        list.extend(lengths(&mut random, kop));
+        list.extend(directions(&mut random, kop));
     }
-    out.flush()
+    list.extend(short_masts(&mut random));
+    list
 }
 
 /// Legs and heights down to those shorter than 0.2 wavelengths. The height is
@@ -40,30 +40,13 @@ fn vertical(random: &mut SplitMix64, kop: i32) -> Call {
     call
 }
 
-fn directed(random: &mut SplitMix64, kop: i32) -> Vec<Call> {
-    let mut list = edges(random, kop);
-    list.extend(lengths(random, kop));
-    list.extend(directions(random, kop));
-    if kop == 8 {
-        list.extend(short_masts(random));
-    }
-    list
-}
-
-/// Each number of a call at each edge.
+/// Azimuth, dielectric constant, leg, height and first extra at each edge.
 fn edges(random: &mut SplitMix64, kop: i32) -> Vec<Call> {
     let mut list = Vec::new();
     for edge in EDGES {
-        for place in 0..6 {
+        for place in [0, 2, 4, 5, 6] {
             let mut call = vertical(random, kop);
-            match place {
-                0 => call.p.anl = edge,
-                1 => call.p.anh = edge,
-                2 => call.p.aex[0] = edge,
-                3 => call.toaz = edge,
-                4 => call.p.aeps = edge,
-                _ => call.delta = if edge <= 0.0 { PIO2 } else { edge },
-            }
+            *number(&mut call, place) = edge;
             list.push(call);
         }
     }
@@ -74,7 +57,7 @@ fn edges(random: &mut SplitMix64, kop: i32) -> Vec<Call> {
 /// hold, 0.35, and where the integrals take their rational form.
 fn lengths(random: &mut SplitMix64, kop: i32) -> Vec<Call> {
     let mut list = Vec::new();
-    let quarter = 1.0 / (4.0 * 6.283_185);
+    let quarter = 1.0 / (4.0 * TAU);
     for size in [0.2, 0.35, quarter, 2.0 * quarter, 0.199_999_2, 0.200_002] {
         for v in around(-size) {
             let mut call = vertical(random, kop);

@@ -3,14 +3,10 @@
 
 use oracle::elementary::{bits, FUNCTIONS};
 use oracle::lists_antenna;
-use oracle::lists_curtain;
-use oracle::lists_dipoles;
+use oracle::lists_gains;
 use oracle::lists_integrals;
 use oracle::lists_output;
 use oracle::lists_parameters;
-use oracle::lists_rhombics;
-use oracle::lists_slopes;
-use oracle::lists_verticals;
 use oracle::splitmix::SplitMix64;
 use std::f64::consts::FRAC_PI_2;
 use std::io::{self, BufWriter, Write};
@@ -30,14 +26,10 @@ fn main() {
     let written = match name.as_str() {
         "elementary" => elementary(&mut BufWriter::new(io::stdout().lock())),
         "antenna" => lists_antenna::write(&mut BufWriter::new(io::stdout().lock())),
-        "curtain" => lists_curtain::write(&mut BufWriter::new(io::stdout().lock())),
-        "dipoles" => lists_dipoles::write(&mut BufWriter::new(io::stdout().lock())),
+        "gains" => lists_gains::write(&mut BufWriter::new(io::stdout().lock())),
         "integrals" => lists_integrals::write(&mut BufWriter::new(io::stdout().lock())),
         "output" => lists_output::write(&mut BufWriter::new(io::stdout().lock())),
         "parameters" => lists_parameters::write(&mut BufWriter::new(io::stdout().lock())),
-        "rhombics" => lists_rhombics::write(&mut BufWriter::new(io::stdout().lock())),
-        "slopes" => lists_slopes::write(&mut BufWriter::new(io::stdout().lock())),
-        "verticals" => lists_verticals::write(&mut BufWriter::new(io::stdout().lock())),
         _ => stop("lists: README.md names the lists"),
     };
     if let Err(error) = written {

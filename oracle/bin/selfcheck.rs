@@ -6,8 +6,8 @@
 use oracle::antenna::{gain_lookup, invcon, GainTable};
 use oracle::con;
 use oracle::elementary::{bits, NAN_BITS};
-use oracle::ioncap::{cisi, iongain, ioninit, IoncapParams, IoncapState};
-use oracle::model::Model;
+use oracle::gain_calls::{answer, Call, DEGREE};
+use oracle::ioncap::{cisi, ioninit, IoncapParams};
 use oracle::output::i;
 use oracle::standins::StandIn;
 use std::fmt::Debug;
@@ -46,6 +46,7 @@ fn main() {
     constants(&mut checks);
     ground_gains(&mut checks);
     curtain(&mut checks);
+    refusals(&mut checks);
     cone_and_lookup(&mut checks);
     fields(&mut checks);
     zeros(&mut checks);
@@ -57,15 +58,24 @@ fn main() {
     exit(i32::from(checks.failed > 0));
 }
 
-/// Conductivity 0.01 over dielectric constant 4, no antenna yet.
-fn over_ground() -> IoncapParams {
-    IoncapParams {
-        asig: 0.01,
-        aeps: 4.0,
-        and: 0.0,
-        anl: 0.0,
-        anh: 0.0,
-        aex: [0.0; 4],
+/// Conductivity 0.01 over dielectric constant 4, at 7 MHz, no antenna yet and
+/// nothing carried.
+fn over_ground(kop: i32, delta: f32) -> Call {
+    Call {
+        kop,
+        model: 0,
+        height: 0.0,
+        toaz: 0.0,
+        p: IoncapParams {
+            asig: 0.01,
+            aeps: 4.0,
+            and: 0.0,
+            anl: 0.0,
+            anh: 0.0,
+            aex: [0.0; 4],
+        },
+        delta,
+        fmc: 7.0,
     }
 }
 
@@ -79,33 +89,28 @@ fn constants(checks: &mut Checks) {
 
 fn ground_gains(checks: &mut Checks) {
     let gain = |kop, height| {
-        let mut state = IoncapState { x: height };
-        let params = over_ground();
-        iongain(&mut state, kop, 0.0, &params, 0.0, 2.0, Model::Compatible).0
+        answer(&Call {
+            height,
+            ..over_ground(kop, 0.0)
+        })
+        .gain
     };
     checks.value("type 5, fresh", gain(5, 0.0), -30.0 + -25.64620146);
     checks.value("type 2, height 0.35", gain(2, 0.35), -30.0);
     checks.value("type 1 on the ground", gain(1, 0.0), -30.0 + -1.7);
 }
 
+/// Four bays.
+fn curtain_call(elements: f32, elevation: f32) -> Call {
+    let mut call = over_ground(6, elevation);
+    call.p.and = 4.0;
+    (call.p.anl, call.p.anh) = (-0.5, -0.5);
+    call.p.aex = [elements, -0.5, -0.5, -0.25];
+    call
+}
+
 fn curtain(checks: &mut Checks) {
-    let gain = |elements, elevation| {
-        let mut params = over_ground();
-        params.and = 4.0;
-        (params.anl, params.anh) = (-0.5, -0.5);
-        params.aex = [elements, -0.5, -0.5, -0.25];
-        let mut state = IoncapState::default();
-        iongain(
-            &mut state,
-            6,
-            0.0,
-            &params,
-            elevation,
-            7.0,
-            Model::Compatible,
-        )
-        .0
-    };
+    let gain = |elements, elevation| answer(&curtain_call(elements, elevation)).gain;
     checks.value("curtain, 4 elements", gain(4.0, 1.0), -26.0);
     checks.value("curtain, -2 elements", gain(-2.0, 1.0), -30.0);
     let off_the_floor = ![-30.0, -26.0].contains(&gain(4.0, 0.5));
@@ -113,6 +118,34 @@ fn curtain(checks: &mut Checks) {
     checks.value("12 elements act as 10", gain(12.0, 0.5), gain(10.0, 0.5));
     checks.value("-1 elements act as 10", gain(-1.0, 0.5), gain(10.0, 0.5));
     checks.value("-0.5 elements act as none", gain(-0.5, 0.5), -30.0);
+}
+
+/// Each refusal of a gain call, next to what passes.
+fn refusals(checks: &mut Checks) {
+    let call = curtain_call(4.0, 0.0);
+    let with = |change: fn(&mut Call)| {
+        let mut changed = call;
+        change(&mut changed);
+        answer(&changed).number
+    };
+    checks.same("accepted", with(|_| ()), 0);
+    checks.same("height NaN", with(|c| c.height = f32::NAN), 9);
+    checks.same("type 11", with(|c| c.kop = 11), 1);
+    checks.same("1,000 degrees", with(|c| c.toaz = -1_000.0), 0);
+    checks.same("beyond", with(|c| c.toaz = -1_000f32.next_up()), 2);
+    checks.same("conductivity 0", with(|c| c.p.asig = 0.0), 3);
+    checks.same("the least", with(|c| c.p.asig = f32::from_bits(1)), 0);
+    checks.same("30 MHz", with(|c| c.fmc = 30.0), 0);
+    checks.same("the next f32", with(|c| c.fmc = 30f32.next_up()), 4);
+    checks.same("64 bays", with(|c| c.p.and = 64.0), 0);
+    checks.same("65 bays", with(|c| c.p.and = 65.0), 5);
+    let refused = answer(&Call {
+        kop: 0,
+        height: -3.0,
+        ..call
+    });
+    let left = [refused.gain, refused.efficiency, refused.height];
+    checks.same("a refusal's answer", left, [0.0, 0.0, -3.0]);
 }
 
 fn cone_and_lookup(checks: &mut Checks) {
@@ -212,7 +245,7 @@ fn gain_bits(checks: &mut Checks) {
 }
 
 /// A call in hexadecimal words: type, azimuth, the nine parameters,
-/// elevation, MHz, height met.
+/// elevation, MHz, carried height.
 fn gain_line(line: &str) -> [u32; 3] {
     let (kop, rest) = line.split_once(' ').expect("a type and more");
     let words: Vec<f32> = rest
@@ -222,42 +255,29 @@ fn gain_line(line: &str) -> [u32; 3] {
     let [toaz, asig, aeps, and, anl, anh, a, b, c, d, delta, fmc, height] = words[..] else {
         panic!("13 numbers in {line}");
     };
-    let params = IoncapParams {
-        asig,
-        aeps,
-        and,
-        anl,
-        anh,
-        aex: [a, b, c, d],
-    };
-    let kop = kop.parse().expect("a type");
-    let mut state = IoncapState { x: height };
-    let (gain, eff) = iongain(
-        &mut state,
-        kop,
+    let answer = answer(&Call {
+        kop: kop.parse().expect("a type"),
+        model: 0,
+        height,
         toaz,
-        &params,
+        p: IoncapParams {
+            asig,
+            aeps,
+            and,
+            anl,
+            anh,
+            aex: [a, b, c, d],
+        },
         delta,
         fmc,
-        Model::Compatible,
-    );
-    [gain, eff, state.x].map(bits)
+    });
+    [answer.gain, answer.efficiency, answer.height].map(bits)
 }
 
 fn monopole(leg: f32, gain: f32, elevation: f32) -> f32 {
-    let mut params = over_ground();
-    (params.anl, params.anh) = (leg, gain);
-    let mut state = IoncapState::default();
-    iongain(
-        &mut state,
-        2,
-        0.0,
-        &params,
-        elevation,
-        7.0,
-        Model::Compatible,
-    )
-    .0
+    let mut call = over_ground(2, elevation);
+    (call.p.anl, call.p.anh) = (leg, gain);
+    answer(&call).gain
 }
 
 /// The two cards of document 01, section 10, and the same swapped.
@@ -268,56 +288,49 @@ fn listing(checks: &mut Checks) {
     monopole[5] = -0.5;
     (rhombic[6], rhombic[7]) = (100.0, 20.0);
 
-    let mut state = IoncapState::default();
+    let mut height = 0.0;
     let short = ["  2      0  -5565", "  3      0  -3000"];
     let long = ["  2   -170  -3170", "  3   -170  -3170"];
     checks.same(
         "card 1",
-        rows(&mut state, 2, &monopole),
+        rows(&mut height, 2, &monopole),
         short.map(String::from),
     );
     checks.same(
         "card 2",
-        rows(&mut state, 1, &rhombic),
+        rows(&mut height, 1, &rhombic),
         long.map(String::from),
     );
 
-    let mut state = IoncapState::default();
+    let mut height = 0.0;
     let level = ["  2      0  -3000", "  3      0  -3000"];
     checks.same(
         "card 2 first",
-        rows(&mut state, 1, &rhombic),
+        rows(&mut height, 1, &rhombic),
         long.map(String::from),
     );
     checks.same(
         "card 1 last",
-        rows(&mut state, 2, &monopole),
+        rows(&mut height, 2, &monopole),
         level.map(String::from),
     );
 }
 
 /// A card's lines for 2 and 3 MHz: MHz, efficiency, ground gain.
-fn rows(state: &mut IoncapState, kop: i32, slots: &[f32; 20]) -> [String; 2] {
-    let params = ioninit(kop, slots);
+fn rows(height: &mut f32, kop: i32, slots: &[f32; 20]) -> [String; 2] {
     [2, 3].map(|mhz: i64| {
-        let mut ground = 0.0;
-        let mut efficiency = 0.0;
-        for degrees in 0..=90 {
-            let elevation = degrees as f32 * 0.017453293;
-            let (gain, eff) = iongain(
-                state,
-                kop,
-                0.0,
-                &params,
-                elevation,
-                mhz as f32,
-                Model::Compatible,
-            );
-            if degrees == 0 {
-                ground = gain;
-            }
-            efficiency = eff;
-        }
+        let mut row = (0..=90).map(|degrees| {
+            let cell = answer(&Call {
+                height: *height,
+                p: ioninit(kop, slots),
+                fmc: mhz as f32,
+                ..over_ground(kop, degrees as f32 * DEGREE)
+            });
+            *height = cell.height;
+            cell
+        });
+        let ground = row.next().expect("0 degrees").gain;
+        let efficiency = row.last().expect("90 degrees").efficiency;
         i(mhz, 3) + &i(hundredths(efficiency), 7) + &i(hundredths(ground), 7)
     })
 }

@@ -6,6 +6,7 @@ use antenna::ConeGain;
 use antenna::Lookup;
 use libc::STDIN_FILENO;
 use libc::STDOUT_FILENO;
+use vectors::Tally;
 
 // One more than a table has, for the lines with a wrong length.
 const CELLS: usize = 2761;
@@ -30,15 +31,6 @@ fn float(line: &[u8], k: usize) -> f32
     requires { ⌜ k * 9 + 10 ≤ length (now line) ⌝ }
 {
     vectors::float(word(line, k))
-}
-
-// The i32 with these bits.
-fn signed(bits: u32) -> i32 {
-    if bits <= 0x7fff_ffff {
-        bits as i32
-    } else {
-        !((0xffff_ffff - bits) as i32)
-    }
 }
 
 // The halves of n modulo 2 ^ 32 changed over, times a prime, modulo 2 ^ 32.
@@ -130,8 +122,8 @@ fn card_answer(line: &[u8]) -> Outcome
 {
     let table = seeded_table(word(line, 0));
     let n = table_length(line);
-    let first = signed(word(line, 2));
-    let last = signed(word(line, 3));
+    let first = vectors::signed(word(line, 2));
+    let last = vectors::signed(word(line, 3));
     let verdict = word(line, 4);
     found(antenna::card_lookup(
         first,
@@ -181,29 +173,23 @@ fn is_equal(line: &[u8]) -> bool
     same_number & same_gain & same_efficiency
 }
 
-fn one_more(count: u64, equal: bool) -> u64
-    requires { ⌜ count ≤ 1000000 ⌝ }
-    ensures { λ r. ⌜ r ≤ count + 1 ⌝ }
-{
-    if equal { count } else { count + 1 }
-}
-
 fn print(count: u64, text: &[u8]) {
     io::print_decimal(STDOUT_FILENO, count);
     io::write_all(STDOUT_FILENO, text);
 }
 
 fn main() {
-    let mut compared: u64 = 0;
-    let mut differ: u64 = 0;
-    while compared < 1000000 {
+    let mut tally = Tally {
+        compared: 0,
+        differ: 0,
+    };
+    while tally.compared < 1000000 {
         let mut line = [0u8; 92];
         if io::read_full(STDIN_FILENO, &mut line) < 92 {
             break;
         }
-        compared += 1;
-        differ = one_more(differ, is_equal(&line));
+        tally = vectors::counted(tally, is_equal(&line));
     }
-    print(compared, b" compared\n");
-    print(differ, b" differ\n");
+    print(tally.compared, b" compared\n");
+    print(tally.differ, b" differ\n");
 }

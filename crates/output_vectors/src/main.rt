@@ -1,12 +1,13 @@
 // Replays the oracle's list `output` (oracle/README.md) and prints how many lines were compared
 // and how many differ.
-ghost use Prim.Native.Nat.{_+_, _≤_};
+ghost use Prim.Native.Nat.{_≤_};
 ghost use lib.ListN.{length};
 use libc::STDIN_FILENO;
 use libc::STDOUT_FILENO;
 use output::Decimal;
 use output::Hundredths;
 use output::Integer;
+use vectors::Tally;
 
 // The next line of the list, with whether the port's answer is the oracle's.
 enum Outcome {
@@ -131,28 +132,22 @@ fn next() -> Outcome {
     Outcome::Compared(agrees(&line, &mut out))
 }
 
-fn one_more(count: u64, equal: bool) -> u64
-    requires { ⌜ count ≤ 1000000 ⌝ }
-    ensures { λ r. ⌜ r ≤ count + 1 ⌝ }
-{
-    if equal { count } else { count + 1 }
-}
-
 fn print(count: u64, text: &[u8]) {
     io::print_decimal(STDOUT_FILENO, count);
     io::write_all(STDOUT_FILENO, text);
 }
 
 fn main() {
-    let mut compared: u64 = 0;
-    let mut differ: u64 = 0;
-    while compared < 1000000 {
+    let mut tally = Tally {
+        compared: 0,
+        differ: 0,
+    };
+    while tally.compared < 1000000 {
         let Outcome::Compared(equal) = next() else {
             break;
         };
-        compared += 1;
-        differ = one_more(differ, equal);
+        tally = vectors::counted(tally, equal);
     }
-    print(compared, b" compared, ");
-    print(differ, b" differ\n");
+    print(tally.compared, b" compared, ");
+    print(tally.differ, b" differ\n");
 }

@@ -6,6 +6,7 @@ use libc::STDIN_FILENO;
 use libc::STDOUT_FILENO;
 use parameters::IoncapParams;
 use parameters::Model;
+use vectors::Tally;
 
 // The next line of the list, with whether the port's answer is the oracle's.
 enum Outcome {
@@ -68,17 +69,8 @@ fn ioninit_line(line: &[u8]) -> bool
     requires { ⌜ 270 ≤ length (now line) ⌝ }
 {
     let parm = slots(line);
-    let p = parameters::ioninit(signed(word(line, 0)), &parm);
+    let p = parameters::ioninit(vectors::signed(word(line, 0)), &parm);
     is_params(line, p)
-}
-
-// The i32 with these bits.
-fn signed(bits: u32) -> i32 {
-    if bits < 0x8000_0000 {
-        bits as i32
-    } else {
-        !((0xffff_ffff - bits) as i32)
-    }
 }
 
 fn length_line(line: &[u8]) -> bool
@@ -160,28 +152,22 @@ fn next() -> Outcome {
     }
 }
 
-fn one_more(count: u64, equal: bool) -> u64
-    requires { ⌜ count ≤ 1000000 ⌝ }
-    ensures { λ r. ⌜ r ≤ count + 1 ⌝ }
-{
-    if equal { count } else { count + 1 }
-}
-
 fn print(count: u64, text: &[u8]) {
     io::print_decimal(STDOUT_FILENO, count);
     io::write_all(STDOUT_FILENO, text);
 }
 
 fn main() {
-    let mut compared: u64 = 0;
-    let mut differ: u64 = 0;
-    while compared < 1000000 {
+    let mut tally = Tally {
+        compared: 0,
+        differ: 0,
+    };
+    while tally.compared < 1000000 {
         let Outcome::Compared(equal) = next() else {
             break;
         };
-        compared += 1;
-        differ = one_more(differ, equal);
+        tally = vectors::counted(tally, equal);
     }
-    print(compared, b" compared\n");
-    print(differ, b" differ\n");
+    print(tally.compared, b" compared\n");
+    print(tally.differ, b" differ\n");
 }

@@ -2,7 +2,8 @@
 use Prim.Native.Nat.{ℕ, zero, suc, _+_, _-_, _*_, _%_, _^_}
 use mathlib.Core.Bool.{cond, _&&_}
 use mathlib.Core.List.{List}
-use lib.Dec.{leb}
+use lib.Dec.{leb, ltb}
+use lib.IntN.{ℤ, pos, negsuc}
 use lib.ListN.{getD, length}
 
 -- a hexadecimal digit in ASCII, lower case; any other byte counts as 0
@@ -16,3 +17,7 @@ hexTo field (suc k) = (hexTo field k * 16 + digitOf (getD field k 0)) % 2 ^ 32
 
 unfoldable pub hexOf : List ℕ → ℕ
 hexOf field = hexTo field (length field)
+
+-- the signed number that 32 bits stand for in two's complement
+unfoldable pub signedOf : ℕ → ℤ
+signedOf bits = cond (ltb bits (2 ^ 31)) (pos bits) (negsuc (2 ^ 32 - suc bits))

@@ -1,8 +1,12 @@
-// Reading the oracle's lists: hexadecimal fields and f32s by their bits.
+// Replaying the oracle's lists: hexadecimal fields, numbers by their bits, the count of lines.
+mod tally;
+
 ghost use mathlib.Core.Path.{_≡_};
-ghost use Rattle.vectors.specs.Line.{digitOf, hexOf};
+ghost use Rattle.vectors.specs.Line.{digitOf, hexOf, signedOf};
 pub use encoding::bits;
 pub use encoding::float;
+pub use tally::Tally;
+pub use tally::counted;
 
 // A hexadecimal digit; any other byte counts as 0.
 pub fn digit(b: u8) -> u32
@@ -32,4 +36,15 @@ pub fn hex(field: &[u8]) -> u32
         k += 1;
     }
     n as u32
+}
+
+// The i32 with these bits.
+pub fn signed(bits: u32) -> i32
+    ensures { λ n. ⌜ n ≡ signedOf bits ⌝ }
+{
+    if bits < 0x8000_0000 {
+        bits as i32
+    } else {
+        !((0xffff_ffff - bits) as i32)
+    }
 }

@@ -1,0 +1,32 @@
+use mathlib.Core.Path.{_≡_, refl, ap}
+use Prim.Native.Nat.{ℕ, _-_, _≤_}
+use native.Mathlib.Omega.{arith}
+use mir.Syntax.{w32}
+use mir.Val.{toZ}
+use borrow.Author.Needs.{needs}
+use Rattle.vectors.specs.Line.{signedOf}
+use Rattle.vectors.proofs.signed.Statement.{statement}
+use Rattle.vectors.proofs.signed.Tie as tie
+
+complement-twice : (n : ℕ) → n ≤ 4294967295 → 4294967295 - (4294967295 - n) ≡ n
+complement-twice n n-fits = omega arith
+
+cast-result : tie.Need-cast-result
+cast-result c = search needs
+
+sub-result : tie.Need-sub-result
+sub-result c = search needs
+
+cast-result-2 : tie.Need-cast-result-2
+cast-result-2 c = search needs
+
+returns : tie.Need-returns
+unfolding signedOf
+returns c = refl
+
+returns-2 : tie.Need-returns-2
+unfolding signedOf
+returns-2 c = ap (toZ w32) (complement-twice (c .before .args .bits) (search needs))
+
+pub signed-spec : {M : Type 1} → statement M
+signed-spec = tie.close (tie.spec cast-result sub-result cast-result-2 returns returns-2)
