@@ -1,0 +1,19 @@
+use borrow.Author.Needs.{needs}
+use Rattle.limits.specs.Refusals.{firstRefusal}
+use Rattle.capi.specs.Gain.{lengthRefusal}
+use Rattle.capi.proofs.gain.length_refusal.Statement.{statement}
+use Rattle.capi.proofs.gain.length_refusal.Tie as tie
+
+is-finite-requires : tie.Need-is-finite-requires
+is-finite-requires c κs = search needs
+
+returns : tie.Need-returns
+unfolding lengthRefusal firstRefusal
+returns c = rw (← c .before .is-finite .ensures, c .if1 .taken)
+
+returns-2 : tie.Need-returns-2
+unfolding lengthRefusal firstRefusal
+returns-2 c = rw (← c .before .is-finite .ensures, c .if1 .left)
+
+pub length-refusal-spec : {M : Type 1} → statement M
+length-refusal-spec = tie.close (tie.spec is-finite-requires returns returns-2)
