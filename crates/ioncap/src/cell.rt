@@ -75,14 +75,14 @@ pub fn straight_up(row: Row) -> f32
 }
 
 // By the fourth power of the elevation's sine, so that straight up reads the same at each azimuth.
-pub(crate) fn blend(e: Elevation, up: f32, rain: f32) -> f32
+pub fn blend(e: Elevation, up: f32, rain: f32) -> f32
     ensures { λ r. ⌜ r ≡ blendOf e up rain ⌝ }
 {
     let gmorph = e.s;
     up * gmorph + rain * (1.0 - gmorph)
 }
 
-pub(crate) fn looks_up(kop: i32) -> bool
+pub fn looks_up(kop: i32) -> bool
     ensures { λ r. ⌜ r ≡ looksUp kop ⌝ }
 {
     match kop {

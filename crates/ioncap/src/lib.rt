@@ -3,7 +3,9 @@ mod cell;
 mod core;
 mod gain;
 
+pub use cell::blend;
 pub use cell::cell_gain;
+pub use cell::looks_up;
 pub use cell::straight_up;
 pub use core::Call;
 pub use core::Worked;

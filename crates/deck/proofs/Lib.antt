@@ -1,0 +1,10 @@
+pub mod Degrees
+pub mod Elevations
+pub mod Stored
+pub mod Passes
+pub mod Cells
+pub mod Laws
+pub mod Screens
+pub mod Fills
+pub mod CardRows
+pub mod Whole

@@ -1,0 +1,149 @@
+-- What is known of fields that refusals 1 to 5 let pass. Assumes nothing.
+use mathlib.Core.Path.{_≡_, refl, sym, subst}
+use mathlib.Core.Bool.{Bool, true, false, not, _&&_, _||_, cond}
+use mathlib.Core.List.{List, [], _∷_}
+use mathlib.Core.Logic.{_≢_}
+use Prim.Native.Nat.{ℕ, zero, suc, _<_, _≤_}
+use native.Mathlib.Omega.{arith}
+use native.Mathlib.Nat.{not-suc-le-zero}
+use lib.Dec.{T, eqb, leb}
+use lib.IntN.{ℤ, pos, negsuc, natAbs}
+use lib.ListN.{length, getD}
+use lib.Ieee.{Float, nan, le, lt, eq, neg, round}
+use borrow.Author.Tests.{leb-true, eqb-true, not-false}
+use Rattle.single.specs.Single.{num}
+use Rattle.elementary.specs.Basic.{absolute}
+use Rattle.parameters.specs.Params.{isType, paramsOf, ioninitOf}
+use Rattle.parameters.specs.declared.params.IoncapParams.{IoncapParams}
+use Rattle.limits.specs.Refusals.{firstRefusal}
+use Rattle.limits.specs.Tests.{isIoncapType, outside, anyOutside, tooManyBays, inputRefusal}
+use Rattle.table.specs.Range.{isRange}
+use Rattle.independence.proofs.Verdicts.{passed}
+use Rattle.deck.specs.declared.fields.Fields.{Fields}
+use Rattle.deck.specs.Fields.{fieldsOutside, paramsFor, fieldsRefusal}
+
+-- ---- the tests, one by one
+and-left : (a b : Bool) → (a && b) ≡ true → a ≡ true
+and-left true b e = refl
+and-left false b e = e
+
+and-right : (a b : Bool) → (a && b) ≡ true → b ≡ true
+and-right true b e = e
+and-right false b e = absurd (subst T (sym e) tt)
+
+or-left : (a b : Bool) → (a || b) ≡ false → a ≡ false
+or-left true b e = e
+or-left false b e = refl
+
+or-right : (a b : Bool) → (a || b) ≡ false → b ≡ false
+or-right true b e = absurd (subst T e tt)
+or-right false b e = e
+
+pub record Passed (f : Fields) : Type 0 where
+  pub type : isIoncapType (f .kop) ≡ true
+  pub numbers : fieldsOutside f ≡ false
+  pub range : isRange (f .first) (f .last) ≡ true
+
+pub fields-passed : (f : Fields) → fieldsRefusal f ≡ 0 → Passed f
+unfolding fieldsRefusal inputRefusal firstRefusal
+fields-passed f e =
+    let a = passed (not (isIoncapType (f .kop))) 0 _ e in
+    let b = passed (fieldsOutside f) 1 _ (a .1) in
+    let d = passed (not (lt (num 0 1) (paramsFor f .asig))) 2 _ (b .1) in
+    let g = passed (not (isRange (f .first) (f .last))) 3 _ (d .1) in
+    record { type = not-false _ (a .0); numbers = b .0; range = not-false _ (g .0) }
+
+-- none is 9 or 10
+pub fields-number : (f : Fields) → (fieldsRefusal f ≢ 9) × (fieldsRefusal f ≢ 10)
+unfolding fieldsRefusal inputRefusal firstRefusal
+fields-number f =
+    by (not (isIoncapType (f .kop))) (fieldsOutside f) (not (lt (num 0 1) (paramsFor f .asig))) (not (isRange (f .first) (f .last))) (tooManyBays (f .kop) (paramsFor f .and))
+  where
+    by : (a b c d e : Bool) → (_≢_ {A = ℕ} (cond a 1 (cond b 2 (cond c 3 (cond d 4 (cond e 5 0))))) 9) × (_≢_ {A = ℕ} (cond a 1 (cond b 2 (cond c 3 (cond d 4 (cond e 5 0))))) 10)
+    by true b c d e = (λ p. omega arith, λ p. omega arith)
+    by false true c d e = (λ p. omega arith, λ p. omega arith)
+    by false false true d e = (λ p. omega arith, λ p. omega arith)
+    by false false false true e = (λ p. omega arith, λ p. omega arith)
+    by false false false false true = (λ p. omega arith, λ p. omega arith)
+    by false false false false false = (λ p. omega arith, λ p. omega arith)
+
+-- ---- the type, the first and the last MHz are not negative
+type-whole : (k : ℤ) → isIoncapType k ≡ true → k ≡ pos (natAbs k)
+unfolding isIoncapType
+type-whole (pos k) e = refl
+type-whole (negsuc k) e = absurd (subst T (sym e) tt)
+
+pub is-type : (f : Fields) → fieldsRefusal f ≡ 0 → f .kop ≡ pos (natAbs (f .kop))
+is-type f e = type-whole (f .kop) (fields-passed f e .type)
+
+pub record Range (first last : ℤ) : Type 0 where
+  pub firstWhole : first ≡ pos (natAbs first)
+  pub lastWhole : last ≡ pos (natAbs last)
+  pub low : 1 ≤ natAbs first
+  pub order : natAbs first ≤ natAbs last
+  pub high : natAbs last ≤ 30
+
+range-of : (a b : ℤ) → isRange a b ≡ true → Range a b
+unfolding isRange
+range-of (pos a) (pos b) e =
+    let both = and-left (leb 1 a && leb a b) (leb b 30) e in
+    record {
+      firstWhole = refl;
+      lastWhole = refl;
+      low = leb-true 1 a (and-left (leb 1 a) (leb a b) both);
+      order = leb-true a b (and-right (leb 1 a) (leb a b) both);
+      high = leb-true b 30 (and-right (leb 1 a && leb a b) (leb b 30) e);
+    }
+range-of (pos a) (negsuc b) e =
+    absurd (subst T (sym (and-right (leb 1 a) false (and-left (leb 1 a && false) true e))) tt)
+range-of (negsuc a) b e = absurd (subst T (sym e) tt)
+
+pub in-range : (f : Fields) → fieldsRefusal f ≡ 0 → Range (f .first) (f .last)
+in-range f e = range-of (f .first) (f .last) (fields-passed f e .range)
+
+-- ---- the leg is within the limits
+within : (l : List Float) (i : ℕ) → anyOutside l ≡ false → i < length l → outside (getD l i nan) ≡ false
+unfolding anyOutside
+within [] i e h = absurd (not-suc-le-zero h)
+within (x ∷ l) zero e h = or-left (outside x) (anyOutside l) e
+within (x ∷ l) (suc i) e h = within l i (or-right (outside x) (anyOutside l) e) (omega arith)
+
+choose : (P : IoncapParams → Type 0) (b : Bool) (x y : IoncapParams) → P x → P y → P (cond b x y)
+choose P true x y p q = p
+choose P false x y p q = q
+
+zero-within : outside (num 0 1) ≡ false
+unfolding outside absolute le lt eq round
+zero-within = refl
+
+quarter-within : outside (neg (num 25 100)) ≡ false
+unfolding outside absolute le lt eq neg round
+quarter-within = refl
+
+slot-within : (f : Fields) (i : ℕ) → fieldsRefusal f ≡ 0 → i < 20 → outside (getD (f .slots) i nan) ≡ false
+unfolding fieldsOutside
+slot-within f i e h =
+    let n = fields-passed f e .numbers in
+    let long = not-false _ (or-left (not (eqb (length (f .slots)) 20)) _ n) in
+    let rest = or-right (not (eqb (length (f .slots)) 20)) _ n in
+    let slots = or-left (anyOutside (f .slots)) _ (or-right (anyOutside (f .toaz ∷ [])) _ rest) in
+    within (f .slots) i slots (omega (arith, eqb-true (length (f .slots)) 20 long))
+
+abbrev LegWithin : IoncapParams → Type 0
+LegWithin p = outside (p .anl) ≡ false
+
+pub leg-within : (f : Fields) → fieldsRefusal f ≡ 0 → outside (paramsFor f .anl) ≡ false
+unfolding ioninitOf paramsOf
+leg-within f e =
+    let six = slot-within f 5 e (omega arith) in
+    let seven = slot-within f 6 e (omega arith) in
+    choose LegWithin (isType (f .kop) 1) _ _ seven
+    (choose LegWithin (isType (f .kop) 2) _ _ six
+    (choose LegWithin (isType (f .kop) 3) _ _ six
+    (choose LegWithin (isType (f .kop) 4) _ _ six
+    (choose LegWithin (isType (f .kop) 5) _ _ quarter-within
+    (choose LegWithin (isType (f .kop) 6) _ _ seven
+    (choose LegWithin (isType (f .kop) 7) _ _ seven
+    (choose LegWithin (isType (f .kop) 8) _ _ six
+    (choose LegWithin (isType (f .kop) 9) _ _ seven
+    (choose LegWithin (isType (f .kop) 10) _ _ seven zero-within)))))))))

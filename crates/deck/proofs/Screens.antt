@@ -1,0 +1,48 @@
+-- The refusals before the work: those of the deck and the table, else the entry's own. Assumes nothing.
+use mathlib.Core.Path.{_≡_, refl, _∙_}
+use mathlib.Core.Bool.{Bool, true, false, not, cond}
+use mathlib.Core.List.{List}
+use mathlib.Core.Logic.{_≢_}
+use Prim.Native.Nat.{ℕ, _+_}
+use native.Mathlib.Omega.{arith}
+use lib.Dec.{leb}
+use lib.Ieee.{Float}
+use lib.Ieee.Scale.{finite}
+use Rattle.limits.specs.Refusals.{firstRefusal}
+use Rattle.table.specs.Table.{isTable}
+use Rattle.independence.specs.Deck.{Deck}
+use Rattle.independence.specs.Contracts.{screened, screenedMalformed}
+use Rattle.independence.proofs.Calls.{found-last}
+use Rattle.deck.specs.declared.fields.Fields.{Fields}
+use Rattle.deck.specs.Fields.{fieldsRefusal}
+use Rattle.deck.specs.Antenna.{theAntenna}
+use Rattle.deck.specs.Run.{countLimit, stateRefusal}
+
+-- of the tests 10, 9 and 7, and then r
+first : (a b g : Bool) (r : ℕ)
+    → (_≢_ {A = ℕ} (cond a 10 (cond b 9 (cond g 7 0))) 0 → _≡_ {A = ℕ} (cond a 10 (cond b 9 (cond g 7 r))) (cond a 10 (cond b 9 (cond g 7 0))))
+    × (_≡_ {A = ℕ} (cond a 10 (cond b 9 (cond g 7 0))) 0 → _≡_ {A = ℕ} (cond a 10 (cond b 9 (cond g 7 r))) r)
+first true b g r = (λ p. refl, λ p. let z : ⊥ = omega arith in absurd z)
+first false true g r = (λ p. refl, λ p. let z : ⊥ = omega arith in absurd z)
+first false false true r = (λ p. refl, λ p. let z : ⊥ = omega arith in absurd z)
+first false false false r = (λ p. absurd (p refl), λ p. refl)
+
+module _ (d : Deck) (t : List Float) where
+  abbrev counts : Bool
+  counts = leb countLimit (d .accepted + d .refused)
+
+  pub state-screens : (f : Fields) → stateRefusal d t ≢ 0 → screened theAntenna countLimit d f t ≡ stateRefusal d t
+  unfolding screened stateRefusal firstRefusal
+  state-screens f n = first counts (not (finite (d .height))) (not (isTable t)) _ .0 n
+
+  pub fields-screen : (f : Fields) → stateRefusal d t ≡ 0 → screened theAntenna countLimit d f t ≡ fieldsRefusal f
+  unfolding screened stateRefusal firstRefusal
+  fields-screen f e = first counts (not (finite (d .height))) (not (isTable t)) _ .1 e ∙ found-last (fieldsRefusal f)
+
+  pub state-screens-malformed : stateRefusal d t ≢ 0 → screenedMalformed theAntenna countLimit d t ≡ stateRefusal d t
+  unfolding screenedMalformed stateRefusal firstRefusal
+  state-screens-malformed n = first counts (not (finite (d .height))) (not (isTable t)) 8 .0 n
+
+  pub line-screens : stateRefusal d t ≡ 0 → screenedMalformed theAntenna countLimit d t ≡ 8
+  unfolding screenedMalformed stateRefusal firstRefusal
+  line-screens e = first counts (not (finite (d .height))) (not (isTable t)) 8 .1 e

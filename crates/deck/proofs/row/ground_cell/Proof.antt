@@ -1,0 +1,39 @@
+use mathlib.Core.Path.{_≡_, ap, _∙_}
+use lib.IntN.{ℤ}
+use mir.Syntax.{w32}
+use mir.ValLaws.{toZ-ofZ}
+use Rattle.finish.specs.Finish.{groundOf}
+use Rattle.ioncap.specs.Cell.{looksUp}
+use Rattle.deck.specs.Row.{groundCell}
+use borrow.Author.Needs.{needs}
+use Rattle.deck.proofs.row.ground_cell.Statement.{statement}
+use Rattle.deck.proofs.row.ground_cell.Tie as tie
+
+ground-gain-requires : tie.Need-ground-gain-requires
+ground-gain-requires c κs = search needs
+
+looks-up-requires : tie.Need-looks-up-requires
+looks-up-requires c κs = search needs
+
+blend-requires : tie.Need-blend-requires
+blend-requires c κs = search needs
+
+returns : tie.Need-returns
+unfolding groundCell
+returns c = let s = c .before .before .before .before .args in
+    let back = toZ-ofZ w32 (s .kop) (search needs) in
+    let up : c .before .before .looks-up .result ≡ looksUp (s .kop) = c .before .before .looks-up .ensures ∙ ap looksUp back in
+    let low : c .before .before .before .ground-gain .result ≡ groundOf (s .kop) (s .height) = c .before .before .before .ground-gain .ensures ∙ ap (λ (k : ℤ). groundOf k (s .height)) back in
+    rw (← up, c .before .if1 .taken, ← low) (c .blend .ensures)
+
+returns-2 : tie.Need-returns-2
+unfolding groundCell
+returns-2 c = let s = c .before .before .before .args in
+    let back = toZ-ofZ w32 (s .kop) (search needs) in
+    let up : c .before .looks-up .result ≡ looksUp (s .kop) = c .before .looks-up .ensures ∙ ap looksUp back in
+    let low : c .before .before .ground-gain .result ≡ groundOf (s .kop) (s .height) = c .before .before .ground-gain .ensures ∙ ap (λ (k : ℤ). groundOf k (s .height)) back in
+    rw (← up, c .if1 .left, ← low)
+
+pub ground-cell-spec : {M : Type 1} → statement M
+ground-cell-spec =
+    tie.close (tie.spec ground-gain-requires looks-up-requires blend-requires returns returns-2)

@@ -1,0 +1,25 @@
+-- The antenna over which demand 3 is stated: cards are the plain fields, a cell's call is the gain call's core. Definitions only.
+use lib.IntN.{pos, natAbs}
+use Rattle.single.specs.Single.{num}
+use Rattle.parameters.specs.Length.{monopoleOf}
+use Rattle.reflection.specs.Angles.{waveOf}
+use Rattle.curtain.specs.Bays.{whole}
+use Rattle.finish.specs.Finish.{efficiencyOf}
+use Rattle.independence.specs.Antenna.{Antenna}
+use Rattle.deck.specs.declared.fields.Fields.{Fields}
+use Rattle.deck.specs.Fields.{fieldsRefusal}
+use Rattle.deck.specs.Card.{cardOf, callOf}
+
+-- Refusals 1 and 4 leave no negative type or MHz. Type 8's own efficiency is 0 on the ground. The height of types 2 and 5 is their leg
+abbrev pub theAntenna : Antenna
+theAntenna =
+    record {
+      Card = Fields;
+      typeOf = λ f. natAbs (f .kop);
+      first = λ f. natAbs (f .first);
+      last = λ f. natAbs (f .last);
+      inputRefusal = fieldsRefusal;
+      call = λ f. callOf (cardOf f);
+      efficiencyOf = λ kop h. efficiencyOf (pos kop) h (num 0 1);
+      wavelengths = λ f m. monopoleOf (cardOf f .antenna .leg) (waveOf (whole m)) .x;
+    }

@@ -1,0 +1,26 @@
+-- Document 01 section 8: a card as it is read, and the gain call of a cell. Definitions only.
+use Prim.Native.Nat.{ℕ}
+use lib.Ieee.{Float}
+use Rattle.single.specs.Single.{num}
+use Rattle.curtain.specs.Bays.{whole}
+use Rattle.patterns.specs.Row.{antennaOf}
+use Rattle.ioncap.specs.Core.{workOf}
+use Rattle.ioncap.specs.declared.core.Worked.{Worked}
+use Rattle.ioncap.specs.declared.core.Worked.the-variants as W
+use Rattle.independence.specs.Antenna.{Answer}
+use Rattle.deck.specs.declared.fields.Fields.{Fields}
+use Rattle.deck.specs.declared.card.Card.{Card}
+use Rattle.deck.specs.Fields.{paramsFor}
+use Rattle.deck.specs.Columns.{elevationAt, columnAt}
+
+unfoldable pub cardOf : Fields → Card
+cardOf f = record { first = f .first; last = f .last; antenna = antennaOf (f .kop) (f .toaz) (paramsFor f) (f .model) }
+
+-- 11 arises in the work. It ends the card, which keeps the height that it found, so no height is taken from such a call
+abbrev pub answerOf : Worked → Answer
+answerOf (W.Settled call) = record { refusal = 0; gain = call .gain; efficiency = call .efficiency; height = call .height }
+answerOf W.Unsettled = record { refusal = 11; gain = num 0 1; efficiency = num 0 1; height = num 0 1 }
+
+-- the gain call at m MHz and d degrees, with the height h
+unfoldable pub callOf : Card → ℕ → ℕ → Float → Answer
+callOf c m d h = answerOf (workOf (c .antenna) (whole m) (elevationAt d) (columnAt d) h)

@@ -1,0 +1,6 @@
+pub mod Fields
+pub mod Card
+pub mod Columns
+pub mod Antenna
+pub mod Row
+pub mod Run

@@ -1,0 +1,39 @@
+-- What the filling of a row stores, by the row's own part; and its contract. Definitions only.
+use mathlib.Core.Path.{_≡_}
+use mathlib.Core.Bool.{cond}
+use mathlib.Core.List.{List}
+use Prim.Native.Nat.{ℕ, zero, suc}
+use lib.IntN.{ℤ}
+use lib.ListN.{set}
+use lib.Ieee.{Float}
+use Rattle.reflection.specs.declared.angles.Azimuth.{Azimuth}
+use Rattle.reflection.specs.declared.angles.Elevation.{Elevation}
+use Rattle.finish.specs.Finish.{groundOf}
+use Rattle.patterns.specs.declared.row.Row.{Row}
+use Rattle.ioncap.specs.Cell.{blendOf, looksUp, cellGain}
+use Rattle.table.specs.Table.{gainAt}
+use Rattle.independence.specs.Laws.{Fills}
+use Rattle.independence.specs.Contracts.{RowDone}
+use Rattle.deck.specs.declared.card.Card.{Card}
+use Rattle.deck.specs.declared.fields.Fields.{Fields}
+use Rattle.deck.specs.Columns.{elevationAt, columnAt}
+use Rattle.deck.specs.Card.{cardOf}
+use Rattle.deck.specs.Antenna.{theAntenna}
+
+-- the ground gain, given the row's gain straight up
+unfoldable pub groundCell : ℤ → Float → Elevation → Float → Float
+groundCell kop up e height = cond (looksUp kop) (blendOf e up (groundOf kop height .gain)) (groundOf kop height .gain)
+
+-- the gain at d degrees, from 1
+abbrev pub cellAt : Row → Float → Azimuth → ℕ → Float
+cellAt row up azimuth d = cellGain row up azimuth (elevationAt d) (columnAt d)
+
+-- a table after the first n gains above the ground of the row at m MHz
+unfoldable pub storedAbove : (ℕ → Float) → ℕ → ℕ → List Float → List Float
+storedAbove gain m zero t = t
+storedAbove gain m (suc n) t = set (storedAbove gain m n t) (gainAt m (suc n)) (gain (suc n))
+
+-- a card's row, whichever fields the card was read from
+abbrev pub RowOfFields : Card → ℕ → Float → List Float → List Float → ℕ → Float → Type 0
+RowOfFields card m h t t′ refusal left =
+    (f : Fields) → card ≡ cardOf f → Fills theAntenna f m → RowDone theAntenna f m h t t′ refusal left

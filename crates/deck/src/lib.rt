@@ -1,0 +1,14 @@
+// The deck of document 01 section 8: it runs cards, and demand 3 holds of them (proofs/Whole.antt).
+mod card;
+mod columns;
+mod fields;
+mod filling;
+mod row;
+mod run;
+
+pub use fields::Fields;
+pub use run::Deck;
+pub use run::Ran;
+pub use run::fresh;
+pub use run::run_card;
+pub use run::run_malformed;

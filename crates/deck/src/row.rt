@@ -1,0 +1,85 @@
+// The filling of a row: what holds for it once, then its 91 gains and its efficiency.
+ghost use mathlib.Core.Path.{_≡_};
+ghost use Prim.Native.Nat.{_≤_};
+ghost use lib.ListN.{length};
+ghost use Rattle.deck.specs.Columns.{ColumnsAre};
+ghost use Rattle.deck.specs.Row.{groundCell, cellAt, storedAbove, RowOfFields};
+use crate::card::Card;
+use patterns::Row;
+use patterns::RowAnswer;
+use reflection::Azimuth;
+use reflection::Elevation;
+use table::COLUMNS;
+use table::GAINS;
+
+// `refusal` is 0 if there is none; `height` is the one left.
+pub(crate) struct Filled {
+    pub refusal: u32,
+    pub height: f32,
+}
+
+// `up` is the row's own gain straight up, which types 3 and 4 alone take.
+fn ground_cell(kop: i32, up: f32, e: Elevation, height: f32) -> f32
+    ensures { λ r. ⌜ r ≡ groundCell kop up e height ⌝ }
+{
+    let low = finish::ground_gain(kop, height);
+    if ioncap::looks_up(kop) {
+        return ioncap::blend(e, up, low.gain);
+    }
+    low.gain
+}
+
+fn fill_above(
+    row: Row,
+    up: f32,
+    azimuth: Azimuth,
+    m: usize,
+    deltas: &[f32],
+    cosines: &[f32],
+    sines: &[f32],
+    table: &mut [f32],
+)
+    requires { ⌜ (length (now table) ≡ 2760) × (1 ≤ m) × (m ≤ 30) × ColumnsAre (now deltas) (now cosines) (now sines) 91 ⌝ }
+    ensures { λ _. ⌜ (now (table .exit) ≡ storedAbove (cellAt row up azimuth) m 90 (now (table .entry)))
+        × (length (now (table .exit)) ≡ length (now (table .entry))) ⌝ }
+{
+    let base = (m - 1) * COLUMNS;
+    let mut d: usize = 1;
+    while d < COLUMNS {
+        let e = reflection::elevation_of(cosines[d], sines[d]);
+        table[base + d] = ioncap::cell_gain(row, up, azimuth, deltas[d], e);
+        d += 1;
+    }
+}
+
+// The ground cell alone takes the height that the row finds.
+pub(crate) fn fill_row(
+    card: Card,
+    m: usize,
+    height: f32,
+    deltas: &[f32],
+    cosines: &[f32],
+    sines: &[f32],
+    table: &mut [f32],
+) -> Filled
+    requires { ⌜ (length (now table) ≡ 2760) × (1 ≤ m) × (m ≤ 30) × ColumnsAre (now deltas) (now cosines) (now sines) 91 ⌝ }
+    ensures { λ r. ⌜ RowOfFields card m height (now (table .entry)) (now (table .exit)) (r .refusal) (r .height) ⌝ }
+{
+    let antenna = card.antenna;
+    let mhz = m as u16;
+    let RowAnswer::Settled(row, _) = patterns::row_of(antenna, mhz as f32) else {
+        return Filled {
+            refusal: 11,
+            height,
+        };
+    };
+    let up = ioncap::up_for(row);
+    let e = reflection::elevation_of(cosines[0], sines[0]);
+    table[(m - 1) * COLUMNS] = ground_cell(antenna.kop, up, e, height);
+    fill_above(row, up, antenna.azimuth, m, deltas, cosines, sines, table);
+    table[GAINS + (m - 1)] = row.eff;
+    Filled {
+        refusal: 0,
+        height: row.x,
+    }
+}
