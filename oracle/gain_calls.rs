@@ -65,18 +65,31 @@ pub fn answer(call: &Call) -> Answer {
 
 /// Document 01's refusals of a gain call in their order: 9, then 1 to 5.
 pub fn refusal(call: &Call) -> u32 {
-    let outside = |x: &f32| !x.is_finite() || x.abs() > 1_000.0;
     if !call.height.is_finite() {
-        9
-    } else if !(1..=10).contains(&call.kop) {
+        return 9;
+    }
+    let any = numbers(call).iter().any(outside);
+    let mhz_outside = call.fmc < 1.0 || call.fmc > 30.0;
+    input_refusal(call.kop, any, call.p.asig, mhz_outside, call.p.and)
+}
+
+/// Whether refusal 2 is due to this number.
+pub fn outside(x: &f32) -> bool {
+    !x.is_finite() || x.abs() > 1_000.0
+}
+
+/// Refusals 1 to 5 of a gain call or a card, whose own numbers and MHz these
+/// are.
+pub fn input_refusal(kop: i32, any_outside: bool, asig: f32, mhz_outside: bool, bays: f32) -> u32 {
+    if !(1..=10).contains(&kop) {
         1
-    } else if numbers(call).iter().any(outside) {
+    } else if any_outside {
         2
-    } else if call.p.asig <= 0.0 {
+    } else if asig <= 0.0 {
         3
-    } else if call.fmc < 1.0 || call.fmc > 30.0 {
+    } else if mhz_outside {
         4
-    } else if call.kop == 6 && call.p.and > 64.0 {
+    } else if kop == 6 && bays > 64.0 {
         5
     } else {
         0

@@ -5,6 +5,7 @@ pub mod elementary;
 pub mod gain_calls;
 pub mod lists_antenna;
 pub mod lists_curtain;
+pub mod lists_deck;
 pub mod lists_dipoles;
 pub mod lists_gains;
 pub mod lists_integrals;

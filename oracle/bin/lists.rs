@@ -3,6 +3,7 @@
 
 use oracle::elementary::{bits, FUNCTIONS};
 use oracle::lists_antenna;
+use oracle::lists_deck;
 use oracle::lists_gains;
 use oracle::lists_integrals;
 use oracle::lists_output;
@@ -26,6 +27,7 @@ fn main() {
     let written = match name.as_str() {
         "elementary" => elementary(&mut BufWriter::new(io::stdout().lock())),
         "antenna" => lists_antenna::write(&mut BufWriter::new(io::stdout().lock())),
+        "deck" => lists_deck::write(&mut BufWriter::new(io::stdout().lock())),
         "gains" => lists_gains::write(&mut BufWriter::new(io::stdout().lock())),
         "integrals" => lists_integrals::write(&mut BufWriter::new(io::stdout().lock())),
         "output" => lists_output::write(&mut BufWriter::new(io::stdout().lock())),

@@ -3,6 +3,7 @@ ghost use mathlib.Core.Path.{_≡_};
 ghost use Prim.Native.Nat.{_≤_};
 ghost use Rattle.curtain.specs.Elements.{atMostTen, wavesOf, sumsOf, fieldOf};
 use crate::row::PI;
+use reflection::Ground;
 
 // CA and SA of the elements; the rest of the ten stay 0.
 pub(crate) struct Waves {
@@ -13,6 +14,18 @@ pub(crate) struct Waves {
 struct Sums {
     real: f32,
     imag: f32,
+}
+
+// Of the horizontal and of the vertical part.
+struct BothSums {
+    h: Sums,
+    v: Sums,
+}
+
+// The horizontal and the vertical field.
+pub(crate) struct EhEv {
+    pub eh: f32,
+    pub ev: f32,
 }
 
 // A card that was made elsewhere may have more.
@@ -40,31 +53,59 @@ pub(crate) fn element_waves(m: usize, q: f32, h1: f32, dz: f32) -> Waves
     Waves { ca, sa }
 }
 
-// With a reflection's real part c and imaginary part p.
-fn element_sums(m: usize, waves: Waves, c: f32, p: f32) -> Sums
+// With the real parts ch and cv and the imaginary parts ph and pv of the reflections. One loop for
+// both: two took longer than the Rust.
+fn element_sums(m: usize, waves: Waves, ch: f32, ph: f32, cv: f32, pv: f32) -> BothSums
     requires { ⌜ m ≤ 10 ⌝ }
-    ensures { λ r. ⌜ r ≡ sumsOf m waves c p ⌝ }
+    ensures { λ r. ⌜ (r .h ≡ sumsOf m waves ch ph) × (r .v ≡ sumsOf m waves cv pv) ⌝ }
 {
     let ca = waves.ca;
     let sa = waves.sa;
-    let mut real = 0.0f32;
-    let mut imag = 0.0f32;
+    let mut hreal = 0.0f32;
+    let mut himg = 0.0f32;
+    let mut vreal = 0.0f32;
+    let mut vimg = 0.0f32;
     let mut j: usize = 0;
     while j < m {
-        real = real + (ca[j] * (1.0 + c) + p * sa[j]);
-        imag = imag + (sa[j] * (1.0 - c) + p * ca[j]);
+        let a = ca[j];
+        let b = sa[j];
+        hreal = hreal + (a * (1.0 + ch) + ph * b);
+        himg = himg + (b * (1.0 - ch) + ph * a);
+        vreal = vreal + (a * (1.0 + cv) + pv * b);
+        vimg = vimg + (b * (1.0 - cv) + pv * a);
         j += 1;
     }
-    Sums { real, imag }
+    BothSums {
+        h: Sums {
+            real: hreal,
+            imag: himg,
+        },
+        v: Sums {
+            real: vreal,
+            imag: vimg,
+        },
+    }
 }
 
-// `eh` or `ev`: `before` times the root over the elements, with a reflection of magnitude c and
-// phase psi.
-pub(crate) fn field(before: f32, m: usize, waves: Waves, c: f32, psi: f32) -> f32
+// `before_h` and `before_v` times the roots over the elements, with the ground's reflections.
+pub(crate) fn fields(before_h: f32, before_v: f32, m: usize, waves: Waves, ground: Ground) -> EhEv
     requires { ⌜ m ≤ 10 ⌝ }
-    ensures { λ r. ⌜ r ≡ fieldOf before m waves c psi ⌝ }
+    ensures { λ r. ⌜ (r .eh ≡ fieldOf «before_h» m waves (ground .ch) (ground .psih)) × (r .ev ≡ fieldOf «before_v» m waves (ground .cv) (ground .psiv)) ⌝ }
 {
-    let both = elementary::sin_cos(psi);
-    let s = element_sums(m, waves, -c * both.cosine, -c * both.sine);
-    before * root::sqrt(s.real * s.real + s.imag * s.imag)
+    let Ground { ch, psih, cv, psiv } = ground;
+    let h = elementary::sin_cos(psih);
+    let v = elementary::sin_cos(psiv);
+    let s = element_sums(
+        m,
+        waves,
+        -ch * h.cosine,
+        -ch * h.sine,
+        -cv * v.cosine,
+        -cv * v.sine,
+    );
+    let BothSums { h, v } = s;
+    EhEv {
+        eh: before_h * root::sqrt(h.real * h.real + h.imag * h.imag),
+        ev: before_v * root::sqrt(v.real * v.real + v.imag * v.imag),
+    }
 }

@@ -3,9 +3,10 @@ ghost use mathlib.Core.Path.{_≡_};
 ghost use Rattle.curtain.specs.Pattern.{fac6Of, valueOf, gainOf};
 use crate::bays::bays_sum;
 use crate::card::CurtainCard;
+use crate::elements::EhEv;
 use crate::elements::at_most_ten;
 use crate::elements::element_waves;
-use crate::elements::field;
+use crate::elements::fields;
 use crate::gain::CurtainGain;
 use crate::row::CurtainRow;
 use reflection::Azimuth;
@@ -37,8 +38,7 @@ fn value(
     let fac6 = fac6(card, row, azimuth, elevation.t);
     let m = at_most_ten(card.m);
     let waves = element_waves(m, q, row.h1, row.dz);
-    let eh = field(fac6 * azimuth.cb, m, waves, ground.ch, ground.psih);
-    let ev = field(fac6 * (azimuth.sb * q), m, waves, ground.cv, ground.psiv);
+    let EhEv { eh, ev } = fields(fac6 * azimuth.cb, fac6 * (azimuth.sb * q), m, waves, ground);
     root::sqrt(eh * eh + ev * ev)
 }
 

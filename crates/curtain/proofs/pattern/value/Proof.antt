@@ -12,11 +12,8 @@ at-most-ten-requires c κs = search needs
 element-waves-requires : tie.Need-element-waves-requires
 element-waves-requires c κs = search needs
 
-field-requires : tie.Need-field-requires
-field-requires c κs = search needs
-
-field-requires-2 : tie.Need-field-requires-2
-field-requires-2 c κs = search needs
+fields-requires : tie.Need-fields-requires
+fields-requires c κs = search needs
 
 sqrt-requires : tie.Need-sqrt-requires
 sqrt-requires c κs = search needs
@@ -24,11 +21,11 @@ sqrt-requires c κs = search needs
 returns : tie.Need-returns
 unfolding valueOf
 returns c = rw (
-  ← c .before .before .before .before .before .before .before .fac6 .ensures,
-  ← c .before .before .before .before .before .before .at-most-ten .ensures .0,
-  ← c .before .before .before .before .before .element-waves .ensures,
-  ← c .before .before .before .field .ensures,
-  ← c .before .field2 .ensures,
+  ← c .before .before .before .before .before .before .fac6 .ensures,
+  ← c .before .before .before .before .before .at-most-ten .ensures .0,
+  ← c .before .before .before .before .element-waves .ensures,
+  ← c .before .fields .ensures .0,
+  ← c .before .fields .ensures .1,
   ← c .sqrt .ensures,
 )
 
@@ -39,7 +36,6 @@ value-spec =
     fac6-requires
     at-most-ten-requires
     element-waves-requires
-    field-requires
-    field-requires-2
+    fields-requires
     sqrt-requires
     returns)

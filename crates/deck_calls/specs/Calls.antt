@@ -1,0 +1,37 @@
+-- The benchmark's call: a card run on a deck that holds a height and no counts. Definitions only.
+use Prim.Native.Nat.{ℕ, zero, suc}
+use mathlib.Core.Bool.{cond}
+use mathlib.Core.List.{List}
+use lib.Dec.{eqb}
+use lib.IntN.{ℤ, pos, negsuc}
+use lib.ListN.{length}
+use lib.Ieee.{Float}
+use Rattle.parameters.specs.declared.model.Model.{Model}
+use Rattle.parameters.specs.declared.model.Model.the-variants.{Compatible, Corrected}
+use Rattle.independence.specs.Deck.{Deck, Outcome, outcomeOn}
+use Rattle.deck.specs.declared.fields.Fields.{Fields}
+use Rattle.deck.specs.Antenna.{theAntenna}
+use Rattle.deck.specs.Run.{countLimit, cardEntry}
+
+-- document 01 section 9: 0 is compatible, any other number corrected
+abbrev pub modelOf : ℤ → Model
+modelOf (pos zero) = Compatible
+modelOf (pos (suc n)) = Corrected
+modelOf (negsuc n) = Corrected
+
+abbrev pub fieldsOf : ℤ → ℤ → ℤ → Float → List Float → ℤ → Fields
+fieldsOf kop first last toaz slots model =
+    record { kop = kop; first = first; last = last; toaz = toaz; slots = slots; model = modelOf model }
+
+abbrev pub deckAt : Float → Deck
+deckAt h = record { height = h; accepted = 0; refused = 0 }
+
+abbrev pub outcomeAt : Fields → Float → List Float → Outcome
+outcomeAt f h t = outcomeOn theAntenna countLimit (deckAt h) (cardEntry f t)
+
+-- 7 where there aren't 20 slots, and then nothing is written
+unfoldable pub fillNumber : Fields → Float → List Float → ℕ
+fillNumber f h t = cond (eqb (length (f .slots)) 20) (outcomeAt f h t .verdict) 7
+
+unfoldable pub filled : Fields → Float → List Float → List Float
+filled f h t = cond (eqb (length (f .slots)) 20) (outcomeAt f h t .table) t

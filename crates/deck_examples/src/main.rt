@@ -1,0 +1,18 @@
+// The deck's examples: a card removed from a deck, the curtain's elements per bay, document 01's two
+// cards, and presets at the ends of the counts, the height and the table's length.
+mod elements;
+mod example_cards;
+mod listing;
+mod presets;
+mod removal;
+mod tables;
+mod text;
+
+fn main() {
+    let mut a = [0.0f32; 2760];
+    let mut b = [0.0f32; 2760];
+    removal::print_removals(&mut a, &mut b);
+    elements::print_elements(&mut a, &mut b);
+    listing::print_listings(&mut a);
+    presets::print_presets();
+}
