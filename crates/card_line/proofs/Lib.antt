@@ -1,0 +1,5 @@
+pub mod TenFields
+pub mod Integers
+pub mod Laws
+pub mod Answers
+pub mod Examples

@@ -1,0 +1,102 @@
+use Rattle.gainlist.proofs.Loops.{Running}
+use lib.Seq.{length-take-le}
+use lib.ListN.{length}
+use mathlib.Core.Path.{_≡_, refl, sym, _∙_}
+use native.Mathlib.Omega.{arith}
+use borrow.Author.Needs.{needs}
+use Rattle.gainlist.proofs.run.Statement.{statement}
+use Rattle.gainlist.proofs.run.Tie as tie
+use Rattle.gainlist.proofs.run.Reads as reads
+use Rattle.gainlist.proofs.run.Lts as lts
+use Rattle.gainlist.proofs.turn.Reads as turn-reads
+use Rattle.io.proofs.write_all.Reads as write-all-reads
+use Rattle.listing.proofs.finish.Reads as finish-reads
+use Rattle.listing.proofs.start.Reads as start-reads
+
+abbrev Inv-loop : tie.InvT-loop
+Inv-loop line₀ input₀ table₀ out₀ state₀ turns₀ going₀ line input table out state turns going = Running line₀ input₀ table₀ out₀ line input table out (state .at)
+
+abbrev μ-loop : tie.MeasureT-loop
+μ-loop line₀ input₀ table₀ out₀ state₀ turns₀ going₀ line input table out state turns going = turns
+
+-- src/main.rt:99:18
+start-requires : tie.Need-start-requires Inv-loop μ-loop
+start-requires c κs = search needs
+
+-- src/main.rt:105:5
+loop-holds : tie.Need-loop-holds Inv-loop μ-loop
+loop-holds c = record { kept = c .before .before .before .before .before .pre; line-same = refl; table-same = refl; out-same = refl; input-same = refl }
+
+-- src/main.rt:106:9
+turn-requires : tie.Need-turn-requires Inv-loop μ-loop
+turn-requires c κs = c .before .before .before .before .before .before .loop .inv .kept
+
+-- src/main.rt:108:9
+sub-turns : tie.Need-sub-turns Inv-loop μ-loop
+sub-turns c = search needs
+
+-- src/main.rt:105:5
+loop-less : tie.Need-loop-less Inv-loop μ-loop
+loop-less c = search needs
+
+-- src/main.rt:105:5
+loop-again : tie.Need-loop-again Inv-loop μ-loop
+loop-again c = let i = c .before .before .before .before .before .before .before .before .before .before .before .before .before .before .before .loop .inv in let l : length (c .before .before .before .before .before .before .before .before .turn .last .1 .0) ≡ length (c .before .before .before .before .before .before .before .before .before .before .before .before .before .before .before .loop .line) = search needs in let n : length (c .before .before .before .before .before .before .before .before .turn .last .1 .1 .0) ≡ length (c .before .before .before .before .before .before .before .before .before .before .before .before .before .before .before .loop .input) = search needs in let t : length (c .before .before .before .before .before .before .before .before .turn .last .1 .1 .1 .0) ≡ length (c .before .before .before .before .before .before .before .before .before .before .before .before .before .before .before .loop .table) = search needs in let o : length (c .before .before .before .before .before .before .before .before .turn .last .1 .1 .1 .1 .0) ≡ length (c .before .before .before .before .before .before .before .before .before .before .before .before .before .before .before .loop .out) = search needs in record { kept = record { line-length = l ∙ i .kept .line-length; table-length = t ∙ i .kept .table-length; room = omega (arith, c .before .before .before .before .before .before .before .before .turn .ensures, o) }; line-same = l ∙ i .line-same; table-same = t ∙ i .table-same; out-same = o ∙ i .out-same; input-same = n ∙ i .input-same }
+
+-- src/main.rt:111:9
+finish-requires : tie.Need-finish-requires Inv-loop μ-loop
+finish-requires c κs = search needs
+
+-- src/main.rt:112:34
+slice-reshare-prefix-write-all : tie.Need-slice-reshare-prefix-write-all Inv-loop μ-loop
+slice-reshare-prefix-write-all c = let o : length (c .before .before .before .before .finish .last .1 .1 .1 .0) ≡ length (c .before .before .before .before .before .before .before .before .before .before .loop .out) = search needs in omega (arith, c .before .before .before .before .finish .ensures .fits (omega (arith, c .before .before .before .before .before .before .before .before .before .before .loop .inv .kept .room)), o)
+
+-- src/main.rt:112:34
+slice-aggregate-write-all : tie.Need-slice-aggregate-write-all Inv-loop μ-loop
+slice-aggregate-write-all c = let o : length (c .before .before .before .before .before .finish .last .1 .1 .1 .0) ≡ length (c .before .before .before .before .before .before .before .before .before .before .before .loop .out) = search needs in sym (length-take-le _ _ (omega (arith, c .before .before .before .before .before .finish .ensures .fits (omega (arith, c .before .before .before .before .before .before .before .before .before .before .before .loop .inv .kept .room)), o)))
+
+-- src/main.rt:112:5
+write-all-requires : tie.Need-write-all-requires Inv-loop μ-loop
+write-all-requires c κs = search needs
+
+-- src/main.rt:95:1
+same-length : tie.Need-same-length Inv-loop μ-loop
+same-length c = c .before .before .before .before .before .before .before .before .before .before .before .before .loop .inv .line-same
+
+-- src/main.rt:95:1
+same-length-2 : tie.Need-same-length-2 Inv-loop μ-loop
+same-length-2 c = c .before .before .before .before .before .before .before .before .before .before .before .before .loop .inv .input-same
+
+-- src/main.rt:95:1
+same-length-3 : tie.Need-same-length-3 Inv-loop μ-loop
+same-length-3 c = let t : length (c .before .before .before .before .before .before .finish .last .1 .1 .0) ≡ length (c .before .before .before .before .before .before .before .before .before .before .before .before .loop .table) = search needs in t ∙ c .before .before .before .before .before .before .before .before .before .before .before .before .loop .inv .table-same
+
+-- src/main.rt:95:1
+same-length-4 : tie.Need-same-length-4 Inv-loop μ-loop
+same-length-4 c = let o : length (c .before .before .before .before .before .before .finish .last .1 .1 .1 .0) ≡ length (c .before .before .before .before .before .before .before .before .before .before .before .before .loop .out) = search needs in o ∙ c .before .before .before .before .before .before .before .before .before .before .before .before .loop .inv .out-same
+
+-- src/main.rt:95:1
+returns : tie.Need-returns Inv-loop μ-loop
+returns c = search needs
+
+pub run-spec : {M : Type 1} → statement M
+run-spec =
+    tie.close
+    (tie.spec
+    Inv-loop
+    μ-loop
+    start-requires
+    loop-holds
+    turn-requires
+    sub-turns
+    loop-less
+    loop-again
+    finish-requires
+    slice-reshare-prefix-write-all
+    slice-aggregate-write-all
+    write-all-requires
+    same-length
+    same-length-2
+    same-length-3
+    same-length-4
+    returns)

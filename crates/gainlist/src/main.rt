@@ -1,0 +1,121 @@
+// Cards from standard input, their listing to standard output: what is written is what listing's
+// `step` and `finish` give, in turn.
+ghost use Prim.Native.Nat.{_+_, _≤_};
+ghost use lib.ListN.{length};
+ghost use Rattle.gainlist.specs.Buffers.{Buffers};
+use libc::STDIN_FILENO;
+use libc::STDOUT_FILENO;
+use listing::ROOM;
+use listing::Session;
+
+// Text not written yet ends at `at`. A failed write, or the end of the input, ends the run.
+struct State {
+    session: Session,
+    at: usize,
+    going: bool,
+}
+
+fn flush(state: State, out: &[u8]) -> State
+    requires { ⌜ state .at ≤ length (now out) ⌝ }
+    ensures { λ r. ⌜ r .at ≤ 0 ⌝ }
+{
+    let State { session, at, .. } = state;
+    let going = io::write_all(STDOUT_FILENO, &out[..at]);
+    State {
+        session,
+        at: 0,
+        going,
+    }
+}
+
+// So that the next step has room.
+fn flush_full(state: State, out: &[u8]) -> State
+    requires { ⌜ (569 ≤ length (now out)) × (state .at ≤ length (now out)) ⌝ }
+    ensures { λ r. ⌜ r .at + 569 ≤ length (now (out .entry)) ⌝ }
+{
+    if state.at <= out.len() - ROOM {
+        return state;
+    }
+    flush(state, out)
+}
+
+// All lines that end in the piece.
+fn list_piece(
+    state: State,
+    line: &mut [u8],
+    piece: &[u8],
+    table: &mut [f32],
+    out: &mut [u8],
+) -> State
+    requires { ⌜ Buffers (now line) (now table) (now out) (state .at) ⌝ }
+    ensures { λ r. ⌜ r .at + 569 ≤ length (now (out .entry)) ⌝ }
+{
+    let mut s = state;
+    let mut used: usize = 0;
+    while used < piece.len() {
+        let State { session, at, going } = s;
+        if !going {
+            return s;
+        }
+        let r = listing::step(session, line, &piece[used..], table, out, at);
+        let next = r.session;
+        let stepped = State {
+            session: next,
+            at: r.at,
+            going: true,
+        };
+        s = flush_full(stepped, out);
+        used = used + r.used;
+    }
+    s
+}
+
+// Reads once. Text is written before the next read, so that who sends cards one by one is answered.
+fn turn(state: State, line: &mut [u8], input: &mut [u8], table: &mut [f32], out: &mut [u8]) -> State
+    requires { ⌜ Buffers (now line) (now table) (now out) (state .at) ⌝ }
+    ensures { λ r. ⌜ r .at + 569 ≤ length (now (out .entry)) ⌝ }
+{
+    let got = libc::read(STDIN_FILENO, input);
+    if got <= 0 {
+        let State { session, at, .. } = state;
+        return State {
+            session,
+            at,
+            going: false,
+        };
+    }
+    let n = io::count(got, input);
+    let listed = list_piece(state, line, &input[..n], table, out);
+    if listed.going {
+        return flush(listed, out);
+    }
+    listed
+}
+
+fn run(line: &mut [u8], input: &mut [u8], table: &mut [f32], out: &mut [u8])
+    requires { ⌜ Buffers (now line) (now table) (now out) 0 ⌝ }
+{
+    let mut state = State {
+        session: listing::start(),
+        at: 0,
+        going: true,
+    };
+    let mut turns = u64::MAX;
+    let mut going = true;
+    while turns > 0 && going {
+        state = turn(state, line, input, table, out);
+        going = state.going;
+        turns -= 1;
+    }
+    let State { session, at, .. } = state;
+    let end = listing::finish(session, line, table, out, at);
+    io::write_all(STDOUT_FILENO, &out[..end]);
+}
+
+fn main() {
+    let mut line = [0u8; 120];
+    let mut table = [0.0f32; 2760];
+    let mut input = io::large_buffer();
+    let mut out = io::large_buffer();
+    run(&mut line, &mut input, &mut table, &mut out);
+}

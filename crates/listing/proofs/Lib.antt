@@ -1,0 +1,9 @@
+pub mod Buffer
+pub mod Printed
+pub mod Entries
+pub mod Pieces
+pub mod Ready
+pub mod Cards
+pub mod Sessions
+pub mod Streaming
+pub mod Progress

@@ -1,0 +1,20 @@
+use mathlib.Core.Path.{refl}
+use borrow.Author.Tests.{lt-ltb, le-ltb}
+use Rattle.listing.specs.Session.{heldIn}
+use Rattle.listing.proofs.session.in_buffer.Statement.{statement}
+use Rattle.listing.proofs.session.in_buffer.Tie as tie
+use Rattle.listing.proofs.session.in_buffer.Reads as reads
+use Rattle.listing.proofs.session.in_buffer.Lts as lts
+
+-- src/session.rt:53:1
+returns : tie.Need-returns
+unfolding heldIn
+returns c = rw (lt-ltb (c .before .args .session .held) 120 (c .if1 .taken)) refl
+
+-- src/session.rt:53:1
+returns-2 : tie.Need-returns-2
+unfolding heldIn
+returns-2 c = rw (le-ltb (c .before .args .session .held) 120 (c .if1 .left)) refl
+
+pub in-buffer-spec : {M : Type 1} → statement M
+in-buffer-spec = tie.close (tie.spec returns returns-2)

@@ -1,0 +1,9 @@
+pub mod Lines
+pub mod Text
+pub mod Listing
+pub mod Appended
+pub mod Session
+pub mod Gathering
+pub mod Card
+pub mod Steps
+pub mod Calls
