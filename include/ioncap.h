@@ -20,6 +20,10 @@
  * writes 0, 0 and the carried height. NaN is written as 0x7fc00000. Where the
  * answer is not 12 bytes, nothing is written.
  *
+ * A slice is a pointer, then its length in bytes. An answer is valid for reads
+ * and writes of its length. A table is valid for reads of its length, and does
+ * not overlap the answer.
+ *
  * The functions keep nothing between calls and may be called from any thread.
  */
 #ifndef IONCAP_H

@@ -161,9 +161,9 @@ fn brewster() -> Vec<Call> {
 /// b = 0, with a above, below and equal to 0. Half a turn on the sine, and so
 /// a, is below 0.
 fn psiv_without_b() -> Vec<Call> {
-    // The trap's own call, with a = 0.
-    let trap = [0x3f80_00c7, 0x0da2_4260, 0x3f49_0f14].map(f32::from_bits);
-    let mut list = over(trap[0], trap[1], trap[2], 18.0).to_vec();
+    // The call that is known to have a = 0.
+    let known = [0x3f80_00c7, 0x0da2_4260, 0x3f49_0f14].map(f32::from_bits);
+    let mut list = over(known[0], known[1], known[2], 18.0).to_vec();
     for aeps in [0.5, 0.9, 1.5, 2.0, 4.0, 10.0, 30.0, 81.0, 400.0] {
         for (asig, fmc) in [(0.0001, 3.0), (0.001, 14.0), (0.01, 29.0)] {
             list.extend(without_b(aeps, asig, fmc, 0.0));
