@@ -8,7 +8,7 @@ use lib.Dec.{T, eqb, eqb→eq}
 use lib.ListN.{length, getD}
 use lib.Ieee.{Float, nan, lt, round}
 use lib.Ieee.Fits.{and-l, and-r}
-use Rattle.antenna.specs.InvertedCone.{coneFreqs, coneElevs, cone}
+use Rattle.inverted_cone.specs.InvertedCone.{coneFreqs, coneElevs, cone}
 
 risesFrom : Float → List Float → Bool
 risesFrom a [] = true

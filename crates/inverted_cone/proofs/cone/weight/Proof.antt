@@ -1,8 +1,8 @@
 use mathlib.Core.Path.{refl}
 use lib.Ieee.{round, ofBits}
-use Rattle.antenna.specs.InvertedCone.{weightOf}
-use Rattle.antenna.proofs.inverted_cone.weight.Statement.{statement}
-use Rattle.antenna.proofs.inverted_cone.weight.Tie as tie
+use Rattle.inverted_cone.specs.InvertedCone.{weightOf}
+use Rattle.inverted_cone.proofs.cone.weight.Statement.{statement}
+use Rattle.inverted_cone.proofs.cone.weight.Tie as tie
 
 returns : tie.Need-returns
 unfolding weightOf round ofBits

@@ -2,8 +2,8 @@
 ghost use mathlib.Core.Path.{_≡_};
 ghost use Prim.Native.Nat.{_<_, _≤_};
 ghost use lib.ListN.{length};
-ghost use Rattle.antenna.specs.InvertedCone.{weightOf, interpOf, upperOf, coneValue};
-ghost use Rattle.antenna.specs.InvertedCone.{coneGainNumber, coneGainValue, invconNumber, invconValue};
+ghost use Rattle.inverted_cone.specs.InvertedCone.{weightOf, interpOf, upperOf, coneValue};
+ghost use Rattle.inverted_cone.specs.InvertedCone.{coneGainNumber, coneGainValue, invconNumber, invconValue};
 use crate::cone_table::CONE;
 use crate::cone_table::CONE_ELEVS;
 use crate::cone_table::CONE_FREQS;

@@ -8,8 +8,8 @@ use lib.Ieee.{Float, nan, neg, le}
 use Rattle.single.specs.Single.{_⊞_, _⊟_, _⊠_, _⊘_, num}
 use Rattle.limits.specs.Refusals.{firstRefusal}
 use Rattle.limits.specs.Tests.{anyOutside, numbersTest}
-use Rattle.antenna.specs.declared.inverted_cone.ConeGain.{ConeGain}
-use Rattle.antenna.specs.declared.inverted_cone.ConeGain.the-variants.{Accepted, Refused}
+use Rattle.inverted_cone.specs.declared.cone.ConeGain.{ConeGain}
+use Rattle.inverted_cone.specs.declared.cone.ConeGain.the-variants.{Accepted, Refused}
 
 abbrev pub whole : ℕ → Float
 whole n = num n 1

@@ -8,9 +8,9 @@ use lib.ListN.{length, drop, getD}
 use lib.Seq.{drop-cons, drop-length}
 use lib.Ieee.{Float, nan, le}
 use borrow.Author.Needs.{needs}
-use Rattle.antenna.specs.InvertedCone.{upperFrom, upperOf}
-use Rattle.antenna.proofs.inverted_cone.upper.Statement.{statement}
-use Rattle.antenna.proofs.inverted_cone.upper.Tie as tie
+use Rattle.inverted_cone.specs.InvertedCone.{upperFrom, upperOf}
+use Rattle.inverted_cone.proofs.cone.upper.Statement.{statement}
+use Rattle.inverted_cone.proofs.cone.upper.Tie as tie
 
 module _ (x : Float) (bounds : List Float) (i : ℕ) where
   found : i < length bounds → le x (getD bounds i nan) ≡ true → upperFrom x i (drop i bounds) ≡ i

@@ -2,10 +2,10 @@ use mathlib.Core.Path.{_≡_}
 use Prim.Native.Nat.{ℕ, _-_}
 use lib.ListN.{getD}
 use lib.Ieee.{Float, nan, neg, round, ofBits}
-use Rattle.antenna.specs.InvertedCone.{coneFreqs, coneElevs, cone, upperOf, interpOf, weightOf, coneAt, coneValue}
+use Rattle.inverted_cone.specs.InvertedCone.{coneFreqs, coneElevs, cone, upperOf, interpOf, weightOf, coneAt, coneValue}
 use borrow.Author.Needs.{needs}
-use Rattle.antenna.proofs.inverted_cone.cone_value.Statement.{statement}
-use Rattle.antenna.proofs.inverted_cone.cone_value.Tie as tie
+use Rattle.inverted_cone.proofs.cone.cone_value.Statement.{statement}
+use Rattle.inverted_cone.proofs.cone.cone_value.Tie as tie
 
 -- by the values that the calls answer
 value : (freq elev : Float) (ian ifr : ℕ) (fwt awt g1 g2 r : Float) → ian ≡ upperOf elev coneElevs → ifr ≡ upperOf freq coneFreqs

@@ -1,9 +1,9 @@
 use lib.Ieee.{round, ofBits}
 use Rattle.limits.specs.Refusals.{firstRefusal}
-use Rattle.antenna.specs.InvertedCone.{coneGainNumber, coneGainValue, invconNumber, invconValue}
+use Rattle.inverted_cone.specs.InvertedCone.{coneGainNumber, coneGainValue, invconNumber, invconValue}
 use borrow.Author.Needs.{needs}
-use Rattle.antenna.proofs.inverted_cone.invcon.Statement.{statement}
-use Rattle.antenna.proofs.inverted_cone.invcon.Tie as tie
+use Rattle.inverted_cone.proofs.cone.invcon.Statement.{statement}
+use Rattle.inverted_cone.proofs.cone.invcon.Tie as tie
 
 slice-aggregate-any-outside : tie.Need-slice-aggregate-any-outside
 slice-aggregate-any-outside c = search needs

@@ -1,8 +1,8 @@
 use mathlib.Core.Path.{refl}
 use lib.Ieee.{round, ofBits}
-use Rattle.antenna.specs.InvertedCone.{interpOf}
-use Rattle.antenna.proofs.inverted_cone.interp.Statement.{statement}
-use Rattle.antenna.proofs.inverted_cone.interp.Tie as tie
+use Rattle.inverted_cone.specs.InvertedCone.{interpOf}
+use Rattle.inverted_cone.proofs.cone.interp.Statement.{statement}
+use Rattle.inverted_cone.proofs.cone.interp.Tie as tie
 
 returns : tie.Need-returns
 unfolding interpOf round ofBits
