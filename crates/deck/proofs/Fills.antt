@@ -14,7 +14,7 @@ use Rattle.reflection.specs.declared.angles.Elevation.{Elevation}
 use Rattle.patterns.specs.Row.{antennaOf, rowOf}
 use Rattle.patterns.specs.declared.row.Row.{Row}
 use Rattle.patterns.specs.declared.row.RowAnswer.the-variants as R
-use Rattle.ioncap.specs.Core.{upFor}
+use Rattle.gain_core.specs.Core.{upFor}
 use Rattle.table.specs.Table.{gainAt}
 use Rattle.independence.specs.Antenna.{Answer}
 use Rattle.independence.specs.Laws.{Fills}

@@ -18,11 +18,11 @@ use Rattle.finish.specs.Finish.{floor, efficiencyOf}
 use Rattle.finish.proofs.Laws.{efficiency-same}
 use Rattle.patterns.specs.Row.{antennaOf, heightFor}
 use Rattle.patterns.proofs.Height.{height-finite}
-use Rattle.ioncap.specs.Cell as Cell
-use Rattle.ioncap.specs.Core.{aboveGround, workOf}
-use Rattle.ioncap.specs.declared.core.Worked.{Worked}
-use Rattle.ioncap.specs.declared.core.Worked.the-variants as W
-use Rattle.ioncap.proofs.Laws.{OfCall, workNumber, AboveFloor, left-above, ground-value, up-ground-same, number-same, floor-above}
+use Rattle.cells.specs.Cell as Cell
+use Rattle.gain_core.specs.Core.{aboveGround, workOf}
+use Rattle.gain_core.specs.declared.core.Worked.{Worked}
+use Rattle.gain_core.specs.declared.core.Worked.the-variants as W
+use Rattle.gain_core.proofs.Laws.{OfCall, workNumber, AboveFloor, left-above, ground-value, up-ground-same, number-same, floor-above}
 use Rattle.independence.specs.Antenna.{Answer, lowered, carriesHeight, looksUp, heightLeft}
 use Rattle.independence.specs.Laws.{Fills, Laws}
 use Rattle.deck.proofs.Degrees.{mhz-in-range}

@@ -10,7 +10,7 @@ use Rattle.reflection.specs.declared.angles.Azimuth.{Azimuth}
 use Rattle.reflection.specs.declared.angles.Elevation.{Elevation}
 use Rattle.finish.specs.Finish.{groundOf}
 use Rattle.patterns.specs.declared.row.Row.{Row}
-use Rattle.ioncap.specs.Cell.{blendOf, looksUp, cellGain}
+use Rattle.cells.specs.Cell.{blendOf, looksUp, cellGain}
 use Rattle.table.specs.Table.{gainAt}
 use Rattle.independence.specs.Laws.{Fills}
 use Rattle.independence.specs.Contracts.{RowDone}

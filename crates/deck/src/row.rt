@@ -23,8 +23,8 @@ fn ground_cell(kop: i32, up: f32, e: Elevation, height: f32) -> f32
     ensures { λ r. ⌜ r ≡ groundCell kop up e height ⌝ }
 {
     let low = finish::ground_gain(kop, height);
-    if ioncap::looks_up(kop) {
-        return ioncap::blend(e, up, low.gain);
+    if cells::looks_up(kop) {
+        return cells::blend(e, up, low.gain);
     }
     low.gain
 }
@@ -47,7 +47,7 @@ fn fill_above(
     let mut d: usize = 1;
     while d < COLUMNS {
         let e = reflection::elevation_of(cosines[d], sines[d]);
-        table[base + d] = ioncap::cell_gain(row, up, azimuth, deltas[d], e);
+        table[base + d] = cells::cell_gain(row, up, azimuth, deltas[d], e);
         d += 1;
     }
 }
@@ -73,7 +73,7 @@ pub(crate) fn fill_row(
             height,
         };
     };
-    let up = ioncap::up_for(row);
+    let up = gain_core::up_for(row);
     let e = reflection::elevation_of(cosines[0], sines[0]);
     table[(m - 1) * COLUMNS] = ground_cell(antenna.kop, up, e, height);
     fill_above(row, up, antenna.azimuth, m, deltas, cosines, sines, table);

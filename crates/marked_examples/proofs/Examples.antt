@@ -12,8 +12,8 @@ use Rattle.curtain.specs.Gain.{rainOf, sokOf}
 use Rattle.curtain.specs.Cell as Curtain
 use Rattle.patterns.specs.Pattern.{settledAt, patternOf}
 use Rattle.patterns.specs.Row.{antennaOf, offsetFor, eff8For, rowOf}
-use Rattle.ioncap.specs.Cell.{looksUp, curtainCell, cellOf, cellGain}
-use Rattle.ioncap.specs.Core.{aboveGround, atGround, workOf}
+use Rattle.cells.specs.Cell.{looksUp, curtainCell, cellOf, cellGain}
+use Rattle.gain_core.specs.Core.{aboveGround, atGround, workOf}
 use Rattle.ioncap.specs.Gain.{callOutside, mhzOutside, callRefusal, callWork, gainOf, gainNumber, gainValue}
 use Rattle.table.specs.Table.{isTable}
 use Rattle.antenna.specs.Places.{clamped, nextOf, placeOf}
