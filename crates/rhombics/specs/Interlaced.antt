@@ -3,7 +3,7 @@ use lib.Ieee.{Float, neg}
 use Rattle.single.specs.Single.{_⊞_, _⊟_, _⊠_, _⊘_, num}
 use Rattle.root.specs.Root.{root}
 use Rattle.elementary.specs.Trigonometric.{sine, cosine}
-use Rattle.elementary.specs.declared.trigonometric.SineCosine.{SineCosine}
+use Rattle.trigonometric.specs.declared.trigonometric.SineCosine.{SineCosine}
 use Rattle.reflection.specs.declared.angles.Elevation.{Elevation}
 use Rattle.reflection.specs.declared.ground.Ground.{Ground}
 use Rattle.rhombics.specs.declared.legs.Legs.{Legs}
