@@ -17,7 +17,7 @@ use Rattle.finish.specs.Finish.{decibelsOf, floored}
 use Rattle.patterns.specs.Pattern.{powerOf}
 use Rattle.patterns.specs.declared.pattern.Pattern.{Pattern}
 use Rattle.patterns.specs.declared.pattern.Pattern.the-variants as P
-use Rattle.patterns.specs.declared.row.Row.{Row}
+use Rattle.rows.specs.declared.row.Row.{Row}
 
 -- a power, taken to dB
 unfoldable pub powerCell : Row → Azimuth → Elevation → Float

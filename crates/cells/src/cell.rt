@@ -5,9 +5,9 @@ use curtain::CurtainCard;
 use curtain::CurtainRow;
 use elementary::SineCosine;
 use patterns::Pattern;
-use patterns::Row;
 use reflection::Azimuth;
 use reflection::Elevation;
+use rows::Row;
 
 fn power_cell(row: Row, azimuth: Azimuth, e: Elevation) -> f32
     ensures { λ r. ⌜ r ≡ powerCell row azimuth e ⌝ }

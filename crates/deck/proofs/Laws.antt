@@ -16,8 +16,9 @@ use Rattle.reflection.specs.Angles.{waveOf}
 use Rattle.curtain.specs.Bays.{whole}
 use Rattle.finish.specs.Finish.{floor, efficiencyOf}
 use Rattle.finish.proofs.Laws.{efficiency-same}
-use Rattle.patterns.specs.Row.{antennaOf, heightFor}
-use Rattle.patterns.proofs.Height.{height-finite}
+use Rattle.patterns.specs.Antenna.{antennaOf}
+use Rattle.rows.specs.Row.{heightFor}
+use Rattle.rows.proofs.Height.{height-finite}
 use Rattle.cells.specs.Cell as Cell
 use Rattle.gain_core.specs.Core.{aboveGround, workOf}
 use Rattle.gain_core.specs.declared.core.Worked.{Worked}

@@ -3,7 +3,7 @@ use Prim.Native.Nat.{ℕ}
 use lib.Ieee.{Float}
 use Rattle.single.specs.Single.{num}
 use Rattle.curtain.specs.Bays.{whole}
-use Rattle.patterns.specs.Row.{antennaOf}
+use Rattle.patterns.specs.Antenna.{antennaOf}
 use Rattle.gain_core.specs.Core.{workOf}
 use Rattle.gain_core.specs.declared.core.Worked.{Worked}
 use Rattle.gain_core.specs.declared.core.Worked.the-variants as W

@@ -5,10 +5,10 @@ ghost use lib.ListN.{length};
 ghost use Rattle.deck.specs.Columns.{ColumnsAre};
 ghost use Rattle.deck.specs.Row.{groundCell, cellAt, storedAbove, RowOfFields};
 use crate::card::Card;
-use patterns::Row;
-use patterns::RowAnswer;
 use reflection::Azimuth;
 use reflection::Elevation;
+use rows::Row;
+use rows::RowAnswer;
 use table::COLUMNS;
 use table::GAINS;
 
@@ -67,7 +67,7 @@ pub(crate) fn fill_row(
 {
     let antenna = card.antenna;
     let mhz = m as u16;
-    let RowAnswer::Settled(row, _) = patterns::row_of(antenna, mhz as f32) else {
+    let RowAnswer::Settled(row, _) = rows::row_of(antenna, mhz as f32) else {
         return Filled {
             refusal: 11,
             height,

@@ -13,14 +13,14 @@ use Rattle.reflection.specs.declared.angles.Elevation.{Elevation}
 use Rattle.reflection.specs.declared.angles.Azimuth.{Azimuth}
 use Rattle.finish.specs.Finish.{floor, efficiencyOf, groundOf}
 use Rattle.finish.proofs.Laws.{ground-gain, ground-same, floor-rule}
-use Rattle.patterns.specs.Row.{heightFor, rowOf}
+use Rattle.rows.specs.Row.{heightFor, rowOf}
 use Rattle.patterns.specs.declared.antenna.Antenna.{Antenna}
 use Rattle.patterns.specs.declared.pattern.Pattern.{Pattern}
 use Rattle.patterns.specs.declared.pattern.Pattern.the-variants as P
-use Rattle.patterns.specs.declared.row.Row.{Row}
-use Rattle.patterns.specs.declared.row.RowAnswer.{RowAnswer}
-use Rattle.patterns.specs.declared.row.RowAnswer.the-variants as R
-use Rattle.patterns.proofs.Height.{OfRow, row-own}
+use Rattle.rows.specs.declared.row.Row.{Row}
+use Rattle.rows.specs.declared.row.RowAnswer.{RowAnswer}
+use Rattle.rows.specs.declared.row.RowAnswer.the-variants as R
+use Rattle.rows.proofs.Height.{OfRow, row-own}
 use Rattle.cells.specs.Cell.{looksUp, cellBy, cellOf, cellGain, powerCell, curtainCell}
 use Rattle.gain_core.specs.Core.{aboveFrom, aboveGround, groundFrom, atGround, workOf}
 use Rattle.gain_core.specs.declared.core.Call.{Call}

@@ -4,12 +4,12 @@ use lib.Ieee.{Float, le}
 use Rattle.single.specs.Single.{num}
 use Rattle.reflection.specs.declared.angles.Elevation.{Elevation}
 use Rattle.finish.specs.Finish.{groundOf}
-use Rattle.patterns.specs.Row.{rowOf}
+use Rattle.rows.specs.Row.{rowOf}
 use Rattle.cells.specs.Cell.{straightUp, blendOf, looksUp, cellGain}
 use Rattle.patterns.specs.declared.antenna.Antenna.{Antenna}
-use Rattle.patterns.specs.declared.row.Row.{Row}
-use Rattle.patterns.specs.declared.row.RowAnswer.{RowAnswer}
-use Rattle.patterns.specs.declared.row.RowAnswer.the-variants as R
+use Rattle.rows.specs.declared.row.Row.{Row}
+use Rattle.rows.specs.declared.row.RowAnswer.{RowAnswer}
+use Rattle.rows.specs.declared.row.RowAnswer.the-variants as R
 use Rattle.gain_core.specs.declared.core.Worked.{Worked}
 use Rattle.gain_core.specs.declared.core.Worked.the-variants.{Settled, Unsettled}
 

@@ -7,9 +7,9 @@ use cells::looks_up;
 use cells::straight_up;
 use integrals::Turns;
 use patterns::Antenna;
-use patterns::Row;
-use patterns::RowAnswer;
 use reflection::Elevation;
+use rows::Row;
+use rows::RowAnswer;
 
 // `height` is the one left, `turns` the most of an integral's series.
 pub struct Call {
@@ -37,7 +37,7 @@ pub fn up_for(row: Row) -> f32
 pub fn above_ground(antenna: Antenna, fmc: f32, delta: f32, e: Elevation) -> Worked
     ensures { λ r. ⌜ r ≡ aboveGround antenna fmc delta e ⌝ }
 {
-    let RowAnswer::Settled(row, turns) = patterns::row_of(antenna, fmc) else {
+    let RowAnswer::Settled(row, turns) = rows::row_of(antenna, fmc) else {
         return Worked::Unsettled;
     };
     let gain = cell_gain(row, up_for(row), antenna.azimuth, delta, e);
@@ -56,7 +56,7 @@ pub fn at_ground(antenna: Antenna, fmc: f32, e: Elevation, height: f32) -> Worke
     let kop = antenna.kop;
     let low = finish::ground_gain(kop, height);
     if looks_up(kop) {
-        let RowAnswer::Settled(row, turns) = patterns::row_of(antenna, fmc) else {
+        let RowAnswer::Settled(row, turns) = rows::row_of(antenna, fmc) else {
             return Worked::Unsettled;
         };
         return Worked::Settled(Call {

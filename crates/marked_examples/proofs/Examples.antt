@@ -11,7 +11,8 @@ use Rattle.curtain.specs.Floor.{takesPattern}
 use Rattle.curtain.specs.Gain.{rainOf, sokOf}
 use Rattle.curtain.specs.Cell as Curtain
 use Rattle.patterns.specs.Pattern.{settledAt, patternOf}
-use Rattle.patterns.specs.Row.{antennaOf, offsetFor, eff8For, rowOf}
+use Rattle.patterns.specs.Antenna.{antennaOf}
+use Rattle.rows.specs.Row.{offsetFor, eff8For, rowOf}
 use Rattle.cells.specs.Cell.{looksUp, curtainCell, cellOf, cellGain}
 use Rattle.gain_core.specs.Core.{aboveGround, atGround, workOf}
 use Rattle.ioncap.specs.Gain.{callOutside, mhzOutside, callRefusal, callWork, gainOf, gainNumber, gainValue}

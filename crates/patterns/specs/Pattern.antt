@@ -13,8 +13,8 @@ use Rattle.rhombics.specs.Legs.{legsOf}
 use Rattle.rhombics.specs.Rhombic.{rhombicOf}
 use Rattle.rhombics.specs.Interlaced.{offsetOf, interlacedOf}
 use Rattle.slopes.specs.Slope.{veeSlope, rhombicSlope}
-use Rattle.slopes.specs.Vee.{veeRain}
-use Rattle.slopes.specs.Rhombic.{slopingRhombicRain}
+use Rattle.sloping_patterns.specs.Vee.{veeRain}
+use Rattle.sloping_patterns.specs.Rhombic.{slopingRhombicRain}
 use Rattle.dipoles.specs.Row.{dipoleRow}
 use Rattle.dipoles.specs.Pattern.{dipoleRain}
 use Rattle.dipoles.specs.declared.row.DipoleRow.{DipoleRow}

@@ -128,8 +128,10 @@ pub fn power_of(pattern: Pattern, azimuth: Azimuth, elevation: Elevation, ground
         Pattern::Interlaced(legs, offset) => {
             rhombics::interlaced_rain(legs, offset, elevation, ground)
         }
-        Pattern::Vee(slope) => slopes::vee_rain(slope, elevation, ground),
-        Pattern::SlopingRhombic(slope) => { slopes::sloping_rhombic_rain(slope, elevation, ground) }
+        Pattern::Vee(slope) => sloping_patterns::vee_rain(slope, elevation, ground),
+        Pattern::SlopingRhombic(slope) => {
+            sloping_patterns::sloping_rhombic_rain(slope, elevation, ground)
+        }
         Pattern::Wire(row) => dipoles::dipole_rain(row, azimuth, elevation, ground),
         Pattern::Vertical(row) => verticals::monopole_rain(row, elevation, ground),
         Pattern::Inverted(row) => verticals::inverted_l_rain(row, azimuth, elevation, ground),

@@ -6,7 +6,7 @@ use lib.Ieee.{Float}
 use Rattle.reflection.specs.declared.angles.Azimuth.{Azimuth}
 use Rattle.reflection.specs.declared.angles.Elevation.{Elevation}
 use Rattle.cells.specs.Cell.{powerCell, cellBy}
-use Rattle.patterns.specs.declared.row.Row.{Row}
+use Rattle.rows.specs.declared.row.Row.{Row}
 use Rattle.patterns.specs.declared.pattern.Pattern.{Pattern}
 use Rattle.patterns.specs.declared.pattern.Pattern.the-variants as P
 use Rattle.patterns.proofs.pattern.Pattern.{the-type}
