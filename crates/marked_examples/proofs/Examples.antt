@@ -19,7 +19,8 @@ use Rattle.ioncap.specs.Gain.{callOutside, mhzOutside, callRefusal, callWork, g
 use Rattle.table.specs.Table.{isTable}
 use Rattle.antenna.specs.Places.{clamped, nextOf, placeOf}
 use Rattle.antenna.specs.Rows as Table
-use Rattle.antenna.specs.Lookups.{lookupRefusal, gainLookupValues}
+use Rattle.lookup_refusals.specs.LookupRefusals.{lookupRefusal}
+use Rattle.antenna.specs.Lookups.{gainLookupValues}
 use Rattle.inverted_cone.specs.InvertedCone.{coneFreqs, coneElevs, cone, upperFrom, upperOf, interpOf, weightOf, coneAt, coneValue, invconNumber, invconValue}
 use Rattle.output.specs.Field.{spelled, decimal, text, justified, integerField}
 use Rattle.marked_examples.specs.Examples.{same, sameBytes, accepted, groundIs, curtainIs, coneIs, table, lookupIs, allHold}

@@ -1,10 +1,10 @@
 use mir.Syntax.{w32}
 use mir.ValLaws.{toZ-ofZ}
 use borrow.Author.Tests.{eq-eqb, ne-eqb}
-use Rattle.antenna.proofs.Accepted.{card-refusal}
+use Rattle.lookup_refusals.proofs.Accepted.{card-refusal}
 use borrow.Author.Needs.{needs}
-use Rattle.antenna.proofs.lookups.card_refusal.Statement.{statement}
-use Rattle.antenna.proofs.lookups.card_refusal.Tie as tie
+use Rattle.lookup_refusals.proofs.card_refusal.Statement.{statement}
+use Rattle.lookup_refusals.proofs.card_refusal.Tie as tie
 
 lookup-refusal-requires : tie.Need-lookup-refusal-requires
 lookup-refusal-requires c κs = search needs

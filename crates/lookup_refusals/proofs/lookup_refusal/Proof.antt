@@ -1,8 +1,8 @@
 use Rattle.limits.specs.Refusals.{firstRefusal}
-use Rattle.antenna.specs.Lookups.{lookupRefusal}
+use Rattle.lookup_refusals.specs.LookupRefusals.{lookupRefusal}
 use borrow.Author.Needs.{needs}
-use Rattle.antenna.proofs.lookups.lookup_refusal.Statement.{statement}
-use Rattle.antenna.proofs.lookups.lookup_refusal.Tie as tie
+use Rattle.lookup_refusals.proofs.lookup_refusal.Statement.{statement}
+use Rattle.lookup_refusals.proofs.lookup_refusal.Tie as tie
 
 is-table-requires : tie.Need-is-table-requires
 is-table-requires c κs = search needs

@@ -13,7 +13,7 @@ use Rattle.limits.specs.Refusals.{firstRefusal}
 use Rattle.limits.specs.Tests.{outside, anyOutside}
 use Rattle.table.specs.Range.{isRange}
 use Rattle.table.specs.Table.{tableLength, isTable}
-use Rattle.antenna.specs.Lookups.{lookupRefusal, cardRefusal}
+use Rattle.lookup_refusals.specs.LookupRefusals.{lookupRefusal, cardRefusal}
 
 never : (n : ℕ) → suc n ≡ 0 → ⊥
 never n e = omega arith
