@@ -1,7 +1,7 @@
 use mathlib.Core.Path.{refl}
 use lib.Ieee.{round, ofBits}
-use Rattle.deck.proofs.run.fresh.Statement.{statement}
-use Rattle.deck.proofs.run.fresh.Tie as tie
+use Rattle.deck_state.proofs.fresh.Statement.{statement}
+use Rattle.deck_state.proofs.fresh.Tie as tie
 
 returns : tie.Need-returns
 unfolding round ofBits
