@@ -14,8 +14,8 @@ use Rattle.encoding.proofs.Floats.{floats-length}
 use Rattle.limits.specs.Tests.{outside}
 use Rattle.table.specs.Table.{tableLength, isTable}
 use Rattle.antenna.specs.ByteTables.{byteCount, tableOf}
-use Rattle.antenna.specs.Lookups.{lookupRefusal}
-use Rattle.antenna.proofs.Accepted.{accepted}
+use Rattle.lookup_refusals.specs.LookupRefusals.{lookupRefusal}
+use Rattle.lookup_refusals.proofs.Accepted.{accepted}
 
 pub table-of : (bs : List ℕ) → length bs ≡ byteCount → tableOf bs ≡ floatsOf bs
 unfolding tableOf

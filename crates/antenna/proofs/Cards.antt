@@ -13,8 +13,9 @@ use Rattle.single.specs.Single.{num}
 use Rattle.table.specs.Range.{isRange, isFilled}
 use Rattle.table.specs.Table.{rowCount, columnCount, gainAt, efficiencyAt}
 use Rattle.antenna.specs.Rows.{InTable, rowOf, zeroRow, filledRow}
-use Rattle.antenna.specs.Lookups.{lookupRefusal, gainLookupNumber, gainLookupValues, cardLookupNumber, cardLookupValues}
-use Rattle.antenna.proofs.Accepted.{card-refusal}
+use Rattle.lookup_refusals.specs.LookupRefusals.{lookupRefusal}
+use Rattle.antenna.specs.Lookups.{gainLookupNumber, gainLookupValues, cardLookupNumber, cardLookupValues}
+use Rattle.lookup_refusals.proofs.Accepted.{card-refusal}
 use Rattle.antenna.proofs.Bounds.{low-in, high-in}
 
 -- every gain and the efficiency of each row that the card did not fill

@@ -9,8 +9,8 @@ use lib.Ieee.{Float, nan, inf, fin, binary32, up, down, round, lt, le, eq, ofBit
 use Rattle.single.specs.Single.{num}
 use Rattle.single.proofs.Magnitude.{Mag, or-le}
 use Rattle.elementary.specs.Basic.{absolute, cutToward}
-use Rattle.elementary.specs.Turns.{wholePart}
-use Rattle.elementary.proofs.WholePart.{cut-parts, whole-below, signed-float}
+use Rattle.basic.specs.WholePart.{wholePart}
+use Rattle.basic.proofs.WholePart.{cut-parts, whole-below, signed-float}
 use Rattle.limits.specs.Tests.{outside}
 
 not-false : (b : Bool) → not b ≡ false → T b

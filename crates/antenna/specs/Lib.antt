@@ -1,5 +1,4 @@
 pub mod Places
 pub mod Rows
 pub mod Lookups
-pub mod InvertedCone
 pub mod ByteTables

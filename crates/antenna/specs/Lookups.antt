@@ -1,15 +1,12 @@
--- Document 01 section 9: `gain_lookup`, a card's lookup, and their refusals. Definitions only.
+-- Document 01 section 9: `gain_lookup` and a card's lookup. Definitions only.
 use Prim.Native.Nat.{ℕ}
-use mathlib.Core.Bool.{not, cond, _&&_}
-use mathlib.Core.List.{List, [], _∷_}
+use mathlib.Core.Bool.{cond, _&&_}
+use mathlib.Core.List.{List}
 use lib.Dec.{eqb}
 use lib.IntN.{ℤ}
 use lib.Ieee.{Float}
 use Rattle.single.specs.Single.{num}
-use Rattle.limits.specs.Refusals.{firstRefusal}
-use Rattle.limits.specs.Tests.{anyOutside, numbersTest, mhzTest}
-use Rattle.table.specs.Range.{isRange}
-use Rattle.table.specs.Table.{lengthTest}
+use Rattle.lookup_refusals.specs.LookupRefusals.{lookupRefusal, cardRefusal}
 use Rattle.antenna.specs.Places.{placeOf}
 use Rattle.antenna.specs.Rows.{rowOf, filledRow, blended}
 use Rattle.antenna.specs.declared.lookups.Lookup.{Lookup}
@@ -29,15 +26,6 @@ lookupNumber (Refused n) = n
 unfoldable pub lookupValues : Lookup → GainEfficiency
 lookupValues (Accepted v) = v
 lookupValues (Refused n) = zeros
-
--- 7, then 2 of the MHz and the elevation looked up
-unfoldable pub lookupRefusal : List Float → Float → Float → ℕ
-lookupRefusal t fmc delta = firstRefusal (lengthTest t ∷ numbersTest (anyOutside (fmc ∷ delta ∷ [])) ∷ [])
-
--- then 4, of an accepted card
-unfoldable pub cardRefusal : ℤ → ℤ → ℕ → List Float → Float → Float → ℕ
-cardRefusal first last verdict t fmc delta =
-    firstRefusal (lengthTest t ∷ numbersTest (anyOutside (fmc ∷ delta ∷ [])) ∷ mhzTest (eqb verdict 0 && not (isRange first last)) ∷ [])
 
 -- the blend of two rows at a place
 abbrev pub blendedAt : Place → (ℕ → ℕ → ℕ → Row) → GainEfficiency

@@ -1,6 +1,6 @@
 // `gain_lookup`, and the lookup of a card's table.
 ghost use mathlib.Core.Path.{_≡_};
-ghost use Rattle.antenna.specs.Lookups.{lookupRefusal, cardRefusal, lookupNumber, lookupValues};
+ghost use Rattle.antenna.specs.Lookups.{lookupNumber, lookupValues};
 ghost use Rattle.antenna.specs.Lookups.{gainLookupNumber, gainLookupValues, cardLookupNumber, cardLookupValues};
 use crate::places::Place;
 use crate::places::locate;
@@ -8,39 +8,12 @@ use crate::rows::GainEfficiency;
 use crate::rows::blend;
 use crate::rows::card_row;
 use crate::rows::row_at;
+use lookup_refusals::card_refusal;
+use lookup_refusals::lookup_refusal;
 
 pub enum Lookup {
     Accepted(GainEfficiency),
     Refused(u32),
-}
-
-fn lookup_refusal(table: &[f32], fmc: f32, delta: f32) -> u32
-    ensures { λ r. ⌜ r ≡ lookupRefusal (now (table .entry)) fmc delta ⌝ }
-{
-    if !table::is_table(table) {
-        return 7;
-    }
-    let numbers = [fmc, delta];
-    if limits::any_outside(&numbers) {
-        return 2;
-    }
-    0
-}
-
-// A refused card's first and last MHz are not looked at.
-fn card_refusal(first: i32, last: i32, verdict: u32, table: &[f32], fmc: f32, delta: f32) -> u32
-    ensures { λ r. ⌜ r ≡ cardRefusal first last verdict (now (table .entry)) fmc delta ⌝ }
-{
-    let refusal = lookup_refusal(table, fmc, delta);
-    if refusal != 0 {
-        return refusal;
-    }
-    if verdict == 0 {
-        if !table::is_range(first, last) {
-            return 4;
-        }
-    }
-    0
 }
 
 // At fmc MHz and an elevation of delta radians.

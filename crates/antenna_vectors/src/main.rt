@@ -2,8 +2,8 @@
 // how many differ.
 ghost use Prim.Native.Nat.{_+_, _*_, _<_, _≤_};
 ghost use lib.ListN.{length};
-use antenna::ConeGain;
 use antenna::Lookup;
+use inverted_cone::ConeGain;
 use libc::STDIN_FILENO;
 use libc::STDOUT_FILENO;
 use vectors::Tally;
@@ -138,7 +138,7 @@ fn card_answer(line: &[u8]) -> Outcome
 fn cone_answer(line: &[u8]) -> Outcome
     requires { ⌜ 92 ≤ length (now line) ⌝ }
 {
-    match antenna::invcon(float(line, 5), float(line, 6)) {
+    match inverted_cone::invcon(float(line, 5), float(line, 6)) {
         ConeGain::Accepted(gain) => Outcome {
             number: 0,
             gain,

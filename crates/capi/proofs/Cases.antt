@@ -8,10 +8,10 @@ use lib.ListN.{length}
 use lib.Ieee.{Float}
 use Rattle.single.specs.Single.{num}
 use Rattle.antenna.specs.ByteTables.{tableOf}
-use Rattle.antenna.specs.InvertedCone.{coneGainNumber, coneGainValue, invconNumber, invconValue}
+use Rattle.inverted_cone.specs.InvertedCone.{coneGainNumber, coneGainValue, invconNumber, invconValue}
 use Rattle.antenna.specs.Lookups.{lookupNumber, lookupValues, gainLookupNumber, gainLookupValues}
-use Rattle.antenna.specs.declared.inverted_cone.ConeGain.{ConeGain}
-use Rattle.antenna.specs.declared.inverted_cone.ConeGain.the-variants as Cone
+use Rattle.inverted_cone.specs.declared.cone.ConeGain.{ConeGain}
+use Rattle.inverted_cone.specs.declared.cone.ConeGain.the-variants as Cone
 use Rattle.antenna.specs.declared.lookups.Lookup.{Lookup}
 use Rattle.antenna.specs.declared.lookups.Lookup.the-variants as Table
 use Rattle.antenna.specs.declared.rows.GainEfficiency.{GainEfficiency}

@@ -4,7 +4,7 @@ use mathlib.Core.List.{List}
 use lib.Ieee.{Float}
 use Rattle.single.specs.Single.{num}
 use Rattle.antenna.specs.ByteTables.{tableOf}
-use Rattle.antenna.specs.InvertedCone.{invconNumber, invconValue}
+use Rattle.inverted_cone.specs.InvertedCone.{invconNumber, invconValue}
 use Rattle.antenna.specs.Lookups.{gainLookupNumber, gainLookupValues}
 use Rattle.capi.specs.Answer.{answerBytes, answered, numbered}
 

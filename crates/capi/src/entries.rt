@@ -3,8 +3,8 @@ ghost use mathlib.Core.Path.{_≡_};
 ghost use Rattle.capi.specs.Entries.{lookupResult, lookupAnswer, coneResult, coneAnswer};
 use crate::answers::ANSWER_LENGTH;
 use crate::answers::write_answer;
-use antenna::ConeGain;
 use antenna::Lookup;
+use inverted_cone::ConeGain;
 
 // `gain_lookup` at fmc MHz and an elevation of delta radians, in a table of 11,040 bytes.
 #[no_mangle]
@@ -36,7 +36,7 @@ pub extern "C" fn ioncap_cone(freq: f32, elev_deg: f32, answer: &mut [u8]) -> u3
     if answer.len() != ANSWER_LENGTH {
         return 7;
     }
-    match antenna::invcon(freq, elev_deg) {
+    match inverted_cone::invcon(freq, elev_deg) {
         ConeGain::Accepted(gain) => {
             write_answer(answer, gain, 0.0, 0.0);
             0

@@ -8,15 +8,15 @@ use lib.Ieee.Bits.{is-true, is-false}
 use Rattle.single.specs.Single.{num}
 use Rattle.reflection.specs.Angles.{waveOf}
 use Rattle.curtain.specs.Bays.{whole}
-use Rattle.patterns.specs.Row.{heightFor, rowOf}
-use Rattle.patterns.specs.declared.row.Row.{Row}
-use Rattle.patterns.specs.declared.row.RowAnswer.{RowAnswer}
-use Rattle.patterns.specs.declared.row.RowAnswer.the-variants as R
-use Rattle.patterns.proofs.Height.{row-own}
+use Rattle.rows.specs.Row.{heightFor, rowOf}
+use Rattle.rows.specs.declared.row.Row.{Row}
+use Rattle.rows.specs.declared.row.RowAnswer.{RowAnswer}
+use Rattle.rows.specs.declared.row.RowAnswer.the-variants as R
+use Rattle.rows.proofs.Height.{row-own}
 use Rattle.integrals.specs.declared.entry.Turns.{Turns}
-use Rattle.ioncap.specs.Cell.{looksUp}
-use Rattle.ioncap.specs.Core.{upFor, aboveFrom, aboveGround, atGround}
-use Rattle.ioncap.proofs.Laws.{above, below}
+use Rattle.cells.specs.Cell.{looksUp}
+use Rattle.gain_core.specs.Core.{upFor, aboveFrom, aboveGround, atGround}
+use Rattle.gain_core.proofs.Laws.{above, below}
 use Rattle.independence.specs.Antenna.{Answer}
 use Rattle.deck.proofs.Degrees.{elevation-not-at-ground, elevation-ground}
 use Rattle.deck.specs.declared.card.Card.{Card}

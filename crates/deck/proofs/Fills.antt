@@ -11,10 +11,11 @@ use lib.Ieee.{Float}
 use Rattle.curtain.specs.Bays.{whole}
 use Rattle.integrals.specs.declared.entry.Turns.{Turns}
 use Rattle.reflection.specs.declared.angles.Elevation.{Elevation}
-use Rattle.patterns.specs.Row.{antennaOf, rowOf}
-use Rattle.patterns.specs.declared.row.Row.{Row}
-use Rattle.patterns.specs.declared.row.RowAnswer.the-variants as R
-use Rattle.ioncap.specs.Core.{upFor}
+use Rattle.patterns.specs.Antenna.{antennaOf}
+use Rattle.rows.specs.Row.{rowOf}
+use Rattle.rows.specs.declared.row.Row.{Row}
+use Rattle.rows.specs.declared.row.RowAnswer.the-variants as R
+use Rattle.gain_core.specs.Core.{upFor}
 use Rattle.table.specs.Table.{gainAt}
 use Rattle.independence.specs.Antenna.{Answer}
 use Rattle.independence.specs.Laws.{Fills}

@@ -16,13 +16,14 @@ use Rattle.reflection.specs.Angles.{waveOf}
 use Rattle.curtain.specs.Bays.{whole}
 use Rattle.finish.specs.Finish.{floor, efficiencyOf}
 use Rattle.finish.proofs.Laws.{efficiency-same}
-use Rattle.patterns.specs.Row.{antennaOf, heightFor}
-use Rattle.patterns.proofs.Height.{height-finite}
-use Rattle.ioncap.specs.Cell as Cell
-use Rattle.ioncap.specs.Core.{aboveGround, workOf}
-use Rattle.ioncap.specs.declared.core.Worked.{Worked}
-use Rattle.ioncap.specs.declared.core.Worked.the-variants as W
-use Rattle.ioncap.proofs.Laws.{OfCall, workNumber, AboveFloor, left-above, ground-value, up-ground-same, number-same, floor-above}
+use Rattle.patterns.specs.Antenna.{antennaOf}
+use Rattle.rows.specs.Row.{heightFor}
+use Rattle.rows.proofs.Height.{height-finite}
+use Rattle.cells.specs.Cell as Cell
+use Rattle.gain_core.specs.Core.{aboveGround, workOf}
+use Rattle.gain_core.specs.declared.core.Worked.{Worked}
+use Rattle.gain_core.specs.declared.core.Worked.the-variants as W
+use Rattle.gain_core.proofs.Laws.{OfCall, workNumber, AboveFloor, left-above, ground-value, up-ground-same, number-same, floor-above}
 use Rattle.independence.specs.Antenna.{Answer, lowered, carriesHeight, looksUp, heightLeft}
 use Rattle.independence.specs.Laws.{Fills, Laws}
 use Rattle.deck.proofs.Degrees.{mhz-in-range}

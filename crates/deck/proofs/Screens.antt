@@ -13,10 +13,10 @@ use Rattle.table.specs.Table.{isTable}
 use Rattle.independence.specs.Deck.{Deck}
 use Rattle.independence.specs.Contracts.{screened, screenedMalformed}
 use Rattle.independence.proofs.Calls.{found-last}
+use Rattle.deck_state.specs.DeckState.{countLimit, stateRefusal}
 use Rattle.deck.specs.declared.fields.Fields.{Fields}
 use Rattle.deck.specs.Fields.{fieldsRefusal}
 use Rattle.deck.specs.Antenna.{theAntenna}
-use Rattle.deck.specs.Run.{countLimit, stateRefusal}
 
 -- of the tests 10, 9 and 7, and then r
 first : (a b g : Bool) (r : ℕ)

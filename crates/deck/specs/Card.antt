@@ -3,10 +3,10 @@ use Prim.Native.Nat.{ℕ}
 use lib.Ieee.{Float}
 use Rattle.single.specs.Single.{num}
 use Rattle.curtain.specs.Bays.{whole}
-use Rattle.patterns.specs.Row.{antennaOf}
-use Rattle.ioncap.specs.Core.{workOf}
-use Rattle.ioncap.specs.declared.core.Worked.{Worked}
-use Rattle.ioncap.specs.declared.core.Worked.the-variants as W
+use Rattle.patterns.specs.Antenna.{antennaOf}
+use Rattle.gain_core.specs.Core.{workOf}
+use Rattle.gain_core.specs.declared.core.Worked.{Worked}
+use Rattle.gain_core.specs.declared.core.Worked.the-variants as W
 use Rattle.independence.specs.Antenna.{Answer}
 use Rattle.deck.specs.declared.fields.Fields.{Fields}
 use Rattle.deck.specs.declared.card.Card.{Card}

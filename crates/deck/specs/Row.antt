@@ -9,8 +9,8 @@ use lib.Ieee.{Float}
 use Rattle.reflection.specs.declared.angles.Azimuth.{Azimuth}
 use Rattle.reflection.specs.declared.angles.Elevation.{Elevation}
 use Rattle.finish.specs.Finish.{groundOf}
-use Rattle.patterns.specs.declared.row.Row.{Row}
-use Rattle.ioncap.specs.Cell.{blendOf, looksUp, cellGain}
+use Rattle.rows.specs.declared.row.Row.{Row}
+use Rattle.cells.specs.Cell.{blendOf, looksUp, cellGain}
 use Rattle.table.specs.Table.{gainAt}
 use Rattle.independence.specs.Laws.{Fills}
 use Rattle.independence.specs.Contracts.{RowDone}

@@ -6,9 +6,9 @@ mod filling;
 mod row;
 mod run;
 
+pub use deck_state::Deck;
+pub use deck_state::fresh;
 pub use fields::Fields;
-pub use run::Deck;
 pub use run::Ran;
-pub use run::fresh;
 pub use run::run_card;
 pub use run::run_malformed;

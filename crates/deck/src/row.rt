@@ -5,10 +5,10 @@ ghost use lib.ListN.{length};
 ghost use Rattle.deck.specs.Columns.{ColumnsAre};
 ghost use Rattle.deck.specs.Row.{groundCell, cellAt, storedAbove, RowOfFields};
 use crate::card::Card;
-use patterns::Row;
-use patterns::RowAnswer;
 use reflection::Azimuth;
 use reflection::Elevation;
+use rows::Row;
+use rows::RowAnswer;
 use table::COLUMNS;
 use table::GAINS;
 
@@ -23,8 +23,8 @@ fn ground_cell(kop: i32, up: f32, e: Elevation, height: f32) -> f32
     ensures { λ r. ⌜ r ≡ groundCell kop up e height ⌝ }
 {
     let low = finish::ground_gain(kop, height);
-    if ioncap::looks_up(kop) {
-        return ioncap::blend(e, up, low.gain);
+    if cells::looks_up(kop) {
+        return cells::blend(e, up, low.gain);
     }
     low.gain
 }
@@ -47,7 +47,7 @@ fn fill_above(
     let mut d: usize = 1;
     while d < COLUMNS {
         let e = reflection::elevation_of(cosines[d], sines[d]);
-        table[base + d] = ioncap::cell_gain(row, up, azimuth, deltas[d], e);
+        table[base + d] = cells::cell_gain(row, up, azimuth, deltas[d], e);
         d += 1;
     }
 }
@@ -67,13 +67,13 @@ pub(crate) fn fill_row(
 {
     let antenna = card.antenna;
     let mhz = m as u16;
-    let RowAnswer::Settled(row, _) = patterns::row_of(antenna, mhz as f32) else {
+    let RowAnswer::Settled(row, _) = rows::row_of(antenna, mhz as f32) else {
         return Filled {
             refusal: 11,
             height,
         };
     };
-    let up = ioncap::up_for(row);
+    let up = gain_core::up_for(row);
     let e = reflection::elevation_of(cosines[0], sines[0]);
     table[(m - 1) * COLUMNS] = ground_cell(antenna.kop, up, e, height);
     fill_above(row, up, antenna.azimuth, m, deltas, cosines, sines, table);

@@ -1,61 +1,22 @@
 // The deck: the carried height and the counts, and the entries that are run on it.
 ghost use mathlib.Core.Path.{_≡_};
-ghost use Prim.Native.Nat.{_+_, _<_};
-ghost use Rattle.independence.specs.Deck.{fresh, refusedDeck};
 ghost use Rattle.independence.specs.Contracts.{screened, screenedMalformed, EntryDone};
 ghost use Rattle.deck.specs.Antenna.{theAntenna};
-ghost use Rattle.deck.specs.Run.{countLimit, stateOf, stateRefusal, cardEntry, malformedEntry};
+ghost use Rattle.deck.specs.Run.{countLimit, stateOf, cardEntry, malformedEntry};
 use crate::fields::Fields;
 use crate::fields::card_refusal;
 use crate::filling::fill_card;
-
-// From here on a card is refused by 10.
-const COUNT_LIMIT: u64 = 1_000_000;
+use deck_state::Deck;
+use deck_state::refused_deck;
+use deck_state::state_refusal;
 
 // The refusal of a malformed line.
 const MALFORMED: u32 = 8;
-
-pub struct Deck {
-    pub height: f32,
-    pub accepted: u32,
-    pub refused: u32,
-}
 
 // `verdict` is the refusal number, 0 if accepted.
 pub struct Ran {
     pub deck: Deck,
     pub verdict: u32,
-}
-
-pub fn fresh() -> Deck
-    ensures { λ r. ⌜ stateOf r ≡ fresh ⌝ }
-{
-    Deck {
-        height: 0.0,
-        accepted: 0,
-        refused: 0,
-    }
-}
-
-// Refusals 10, 9 and 7.
-fn state_refusal(deck: Deck, table: &[f32]) -> u32
-    ensures { λ r. ⌜ r ≡ stateRefusal (stateOf deck) (now (table .entry)) ⌝ }
-{
-    let Deck {
-        height,
-        accepted,
-        refused,
-    } = deck;
-    if COUNT_LIMIT <= accepted as u64 + refused as u64 {
-        return 10;
-    }
-    if !limits::is_finite(height) {
-        return 9;
-    }
-    if !table::is_table(table) {
-        return 7;
-    }
-    0
 }
 
 // All refusals that come before the work.
@@ -77,21 +38,6 @@ fn screen_malformed(deck: Deck, table: &[f32]) -> u32
         return verdict;
     }
     MALFORMED
-}
-
-// 10 raises no count.
-fn refused_deck(deck: Deck, verdict: u32) -> Deck
-    requires { ⌜ ((verdict ≡ 10 → ⊥) → deck .accepted + deck .refused < countLimit) ⌝ }
-    ensures { λ r. ⌜ stateOf r ≡ refusedDeck (stateOf deck) verdict ⌝ }
-{
-    if verdict == 10 {
-        return deck;
-    }
-    Deck {
-        height: deck.height,
-        accepted: deck.accepted,
-        refused: deck.refused + 1,
-    }
 }
 
 // The table is cleared, then filled; a refused one is cleared again, and the height found is kept.

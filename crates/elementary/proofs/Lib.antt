@@ -1,7 +1,1 @@
-pub mod Absolute
-pub mod WholePart
-pub mod Cutting
-pub mod Reduction
-pub mod Digits
-pub mod Split
 pub mod Numbers

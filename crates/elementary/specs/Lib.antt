@@ -2,5 +2,4 @@ pub mod Basic
 pub mod Trigonometric
 pub mod Arctangent
 pub mod Logarithm
-pub mod Turns
 pub mod Constants

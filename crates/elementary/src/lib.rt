@@ -1,10 +1,5 @@
-// The elementary functions of document 01 section 1: f32, one rounding per operation, in the order
-// written there.
-mod arctangent;
-mod basic;
-mod logarithm;
-mod trigonometric;
-
+// The elementary functions of document 01 section 1, from the crates that have them: f32, one
+// rounding per operation, in the order written there.
 pub use arctangent::asin;
 pub use arctangent::atan;
 pub use basic::abs;

@@ -9,10 +9,10 @@ use Rattle.elementary.specs.Trigonometric.{sine, cosine}
 use Rattle.reflection.specs.Angles.{elevationOf}
 use Rattle.limits.specs.Refusals.{Test, firstRefusal}
 use Rattle.limits.specs.Tests.{anyOutside, heightTest, inputTests}
-use Rattle.patterns.specs.Row.{antennaOf}
-use Rattle.ioncap.specs.Core.{workOf}
-use Rattle.ioncap.specs.declared.core.Worked.{Worked}
-use Rattle.ioncap.specs.declared.core.Worked.the-variants as W
+use Rattle.patterns.specs.Antenna.{antennaOf}
+use Rattle.gain_core.specs.Core.{workOf}
+use Rattle.gain_core.specs.declared.core.Worked.{Worked}
+use Rattle.gain_core.specs.declared.core.Worked.the-variants as W
 use Rattle.ioncap.specs.declared.gain.GainCall.{GainCall}
 use Rattle.ioncap.specs.declared.gain.Gain.{Gain}
 use Rattle.ioncap.specs.declared.gain.Gain.the-variants.{Accepted, Refused}

@@ -1,3 +1,1 @@
-pub mod Cell
-pub mod Core
 pub mod Gain

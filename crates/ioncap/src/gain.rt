@@ -1,10 +1,10 @@
 // The public gain call, by value.
 ghost use mathlib.Core.Path.{_≡_};
 ghost use Rattle.ioncap.specs.Gain.{callOutside, mhzOutside, callRefusal, gainOf, heightLeft};
-use crate::core::Call;
-use crate::core::Worked;
-use crate::core::work;
 use elementary::SineCosine;
+use gain_core::Call;
+use gain_core::Worked;
+use gain_core::work;
 use parameters::IoncapParams;
 use parameters::Model;
 

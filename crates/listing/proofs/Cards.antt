@@ -13,7 +13,7 @@ use Rattle.output.specs.Field.{integerField}
 use Rattle.output.proofs.Field.{stars}
 use Rattle.table.specs.Table.{cleared}
 use Rattle.independence.specs.Deck.{Deck, Line, card, malformed, Outcome, outcomeOn, deckAfter}
-use Rattle.deck.specs.declared.run.Deck as D
+use Rattle.deck_state.specs.declared.Deck as D
 use Rattle.deck.specs.Antenna.{theAntenna}
 use Rattle.deck.specs.Run.{countLimit, stateOf}
 use Rattle.card_line.specs.declared.line.Line as L

@@ -11,15 +11,17 @@ use Rattle.curtain.specs.Floor.{takesPattern}
 use Rattle.curtain.specs.Gain.{rainOf, sokOf}
 use Rattle.curtain.specs.Cell as Curtain
 use Rattle.patterns.specs.Pattern.{settledAt, patternOf}
-use Rattle.patterns.specs.Row.{antennaOf, offsetFor, eff8For, rowOf}
-use Rattle.ioncap.specs.Cell.{looksUp, curtainCell, cellOf, cellGain}
-use Rattle.ioncap.specs.Core.{aboveGround, atGround, workOf}
+use Rattle.patterns.specs.Antenna.{antennaOf}
+use Rattle.rows.specs.Row.{offsetFor, eff8For, rowOf}
+use Rattle.cells.specs.Cell.{looksUp, curtainCell, cellOf, cellGain}
+use Rattle.gain_core.specs.Core.{aboveGround, atGround, workOf}
 use Rattle.ioncap.specs.Gain.{callOutside, mhzOutside, callRefusal, callWork, gainOf, gainNumber, gainValue}
 use Rattle.table.specs.Table.{isTable}
 use Rattle.antenna.specs.Places.{clamped, nextOf, placeOf}
 use Rattle.antenna.specs.Rows as Table
-use Rattle.antenna.specs.Lookups.{lookupRefusal, gainLookupValues}
-use Rattle.antenna.specs.InvertedCone.{coneFreqs, coneElevs, cone, upperFrom, upperOf, interpOf, weightOf, coneAt, coneValue, invconNumber, invconValue}
+use Rattle.lookup_refusals.specs.LookupRefusals.{lookupRefusal}
+use Rattle.antenna.specs.Lookups.{gainLookupValues}
+use Rattle.inverted_cone.specs.InvertedCone.{coneFreqs, coneElevs, cone, upperFrom, upperOf, interpOf, weightOf, coneAt, coneValue, invconNumber, invconValue}
 use Rattle.output.specs.Field.{spelled, decimal, text, justified, integerField}
 use Rattle.marked_examples.specs.Examples.{same, sameBytes, accepted, groundIs, curtainIs, coneIs, table, lookupIs, allHold}
 

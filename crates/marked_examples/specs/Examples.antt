@@ -10,7 +10,7 @@ use Rattle.single.specs.Single.{_⊞_, num}
 use Rattle.parameters.specs.declared.model.Model.the-variants.{Compatible}
 use Rattle.ioncap.specs.Gain.{gainOf, gainNumber, gainValue}
 use Rattle.ioncap.specs.declared.gain.GainCall.{GainCall}
-use Rattle.antenna.specs.InvertedCone.{invconNumber, invconValue}
+use Rattle.inverted_cone.specs.InvertedCone.{invconNumber, invconValue}
 use Rattle.antenna.specs.Lookups.{gainLookupNumber, gainLookupValues}
 use Rattle.output.specs.Field.{integerField}
 

@@ -1,2 +1,2 @@
+pub mod Antenna
 pub mod Pattern
-pub mod Row

@@ -11,20 +11,20 @@ use Rattle.reflection.specs.declared.angles.Elevation.{Elevation}
 use Rattle.reflection.specs.declared.ground.Ground.{Ground}
 use Rattle.rhombics.specs.Legs.{legsOf}
 use Rattle.rhombics.specs.Rhombic.{rhombicOf}
-use Rattle.rhombics.specs.Interlaced.{offsetOf, interlacedOf}
+use Rattle.interlaced.specs.Interlaced.{offsetOf, interlacedOf}
 use Rattle.slopes.specs.Slope.{veeSlope, rhombicSlope}
-use Rattle.slopes.specs.Vee.{veeRain}
-use Rattle.slopes.specs.Rhombic.{slopingRhombicRain}
+use Rattle.sloping_patterns.specs.Vee.{veeRain}
+use Rattle.sloping_patterns.specs.Rhombic.{slopingRhombicRain}
 use Rattle.dipoles.specs.Row.{dipoleRow}
 use Rattle.dipoles.specs.Pattern.{dipoleRain}
 use Rattle.dipoles.specs.declared.row.DipoleRow.{DipoleRow}
 use Rattle.dipoles.specs.declared.row.DipoleRow.the-variants as D
 use Rattle.verticals.specs.Monopole.{monopoleRow, monopoleRain}
-use Rattle.verticals.specs.InvertedL.{invertedLRow, invertedLRain}
+use Rattle.inverted_l.specs.InvertedL.{invertedLRow, invertedLRain}
 use Rattle.verticals.specs.declared.monopole.MonopoleRow.{MonopoleRow}
 use Rattle.verticals.specs.declared.monopole.MonopoleRow.the-variants as M
-use Rattle.verticals.specs.declared.inverted_l.InvertedLRow.{InvertedLRow}
-use Rattle.verticals.specs.declared.inverted_l.InvertedLRow.the-variants as L
+use Rattle.inverted_l.specs.declared.inverted_l.InvertedLRow.{InvertedLRow}
+use Rattle.inverted_l.specs.declared.inverted_l.InvertedLRow.the-variants as L
 use Rattle.curtain.specs.Card.{cardOf}
 use Rattle.curtain.specs.Row.{rowOf}
 use Rattle.patterns.specs.declared.antenna.Antenna.{Antenna}

@@ -1,6 +1,6 @@
 // What a card or a gain call says of its antenna.
 ghost use mathlib.Core.Path.{_≡_};
-ghost use Rattle.patterns.specs.Row.{antennaOf};
+ghost use Rattle.patterns.specs.Antenna.{antennaOf};
 use parameters::IoncapParams;
 use parameters::Length;
 use parameters::Model;

@@ -7,6 +7,9 @@ use curtain::CurtainRow;
 use dipoles::Dipole;
 use dipoles::DipoleRow;
 use integrals::Turns;
+use interlaced::Offset;
+use inverted_l::InvertedL;
+use inverted_l::InvertedLRow;
 use parameters::HeightInWaves;
 use parameters::LegInWaves;
 use parameters::Length;
@@ -14,10 +17,7 @@ use reflection::Azimuth;
 use reflection::Elevation;
 use reflection::Ground;
 use rhombics::Legs;
-use rhombics::Offset;
 use slopes::Slope;
-use verticals::InvertedL;
-use verticals::InvertedLRow;
 use verticals::Monopole;
 use verticals::MonopoleRow;
 
@@ -68,7 +68,7 @@ fn monopole_of(leg: Length, wave: f32) -> PatternAnswer
 fn inverted_l_of(fac: f32, hwave: f32) -> PatternAnswer
     ensures { λ r. ⌜ r ≡ invertedLOf fac hwave ⌝ }
 {
-    let InvertedLRow::Settled(row, turns) = verticals::inverted_l_row(fac, hwave) else {
+    let InvertedLRow::Settled(row, turns) = inverted_l::inverted_l_row(fac, hwave) else {
         return PatternAnswer::Unsettled;
     };
     PatternAnswer::Settled(Pattern::Inverted(row), turns)
@@ -95,7 +95,7 @@ pub fn pattern_of(antenna: Antenna, wave: f32) -> PatternAnswer
         1 => settled(Pattern::Rhombic(rhombics::legs_of(phi, azimuth, fac, hwave))),
         10 => settled(Pattern::Interlaced(
             rhombics::legs_of(phi, azimuth, fac, hwave),
-            rhombics::offset_of(aex[0], aex[1], wave),
+            interlaced::offset_of(aex[0], aex[1], wave),
         )),
         8 => inverted_l_of(fac, hwave),
         7 => settled(Pattern::Vee(slopes::vee_slope(aex[0], wave, along, above, phi, azimuth))),
@@ -126,13 +126,15 @@ pub fn power_of(pattern: Pattern, azimuth: Azimuth, elevation: Elevation, ground
     match pattern {
         Pattern::Rhombic(legs) => rhombics::rhombic_rain(legs, elevation, ground),
         Pattern::Interlaced(legs, offset) => {
-            rhombics::interlaced_rain(legs, offset, elevation, ground)
+            interlaced::interlaced_rain(legs, offset, elevation, ground)
         }
-        Pattern::Vee(slope) => slopes::vee_rain(slope, elevation, ground),
-        Pattern::SlopingRhombic(slope) => { slopes::sloping_rhombic_rain(slope, elevation, ground) }
+        Pattern::Vee(slope) => sloping_patterns::vee_rain(slope, elevation, ground),
+        Pattern::SlopingRhombic(slope) => {
+            sloping_patterns::sloping_rhombic_rain(slope, elevation, ground)
+        }
         Pattern::Wire(row) => dipoles::dipole_rain(row, azimuth, elevation, ground),
         Pattern::Vertical(row) => verticals::monopole_rain(row, elevation, ground),
-        Pattern::Inverted(row) => verticals::inverted_l_rain(row, azimuth, elevation, ground),
+        Pattern::Inverted(row) => inverted_l::inverted_l_rain(row, azimuth, elevation, ground),
         Pattern::Curtain(_, _) => 0.0,
         Pattern::Other => 0.0,
     }

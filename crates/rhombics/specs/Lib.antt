@@ -1,3 +1,2 @@
 pub mod Legs
 pub mod Rhombic
-pub mod Interlaced

@@ -1,11 +1,8 @@
-// `iongain2`'s terminated rhombic (type 1) and terminated interlaced rhombic (type 10).
-mod interlaced;
+// `iongain2`'s terminated rhombic (type 1), and the legs that it shares with type 10.
 mod legs;
 mod rhombic;
 
-pub use interlaced::Offset;
-pub use interlaced::interlaced_rain;
-pub use interlaced::offset_of;
 pub use legs::Legs;
+pub use legs::elfac;
 pub use legs::legs_of;
 pub use rhombic::rhombic_rain;

@@ -1,4 +1,1 @@
 pub mod Slope
-pub mod Direction
-pub mod Vee
-pub mod Rhombic

@@ -1,3 +1,1 @@
-pub mod Resistance
 pub mod Monopole
-pub mod InvertedL

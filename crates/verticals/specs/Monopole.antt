@@ -10,9 +10,9 @@ use Rattle.parameters.specs.Length.{legOf, monopoleOf}
 use Rattle.parameters.specs.declared.length.Length.{Length}
 use Rattle.reflection.specs.declared.angles.Elevation.{Elevation}
 use Rattle.reflection.specs.declared.ground.Ground.{Ground}
-use Rattle.verticals.specs.Resistance.{resistanceOf}
-use Rattle.verticals.specs.declared.resistance.Resistance.{Resistance}
-use Rattle.verticals.specs.declared.resistance.Resistance.the-variants as Ra
+use Rattle.resistance.specs.Resistance.{resistanceOf}
+use Rattle.resistance.specs.declared.resistance.Resistance.{Resistance}
+use Rattle.resistance.specs.declared.resistance.Resistance.the-variants as Ra
 use Rattle.verticals.specs.declared.monopole.Monopole.{Monopole}
 use Rattle.verticals.specs.declared.monopole.MonopoleRow.{MonopoleRow}
 use Rattle.verticals.specs.declared.monopole.MonopoleRow.the-variants as Row

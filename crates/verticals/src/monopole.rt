@@ -3,12 +3,12 @@
 // floor, which type 2 has not: both are the caller's.
 ghost use mathlib.Core.Path.{_≡_};
 ghost use Rattle.verticals.specs.Monopole.{shortResistance, monopoleRow, notZero, monopoleRain};
-use crate::resistance::Resistance;
-use crate::resistance::resistance_of;
 use integrals::Turns;
 use parameters::Length;
 use reflection::Elevation;
 use reflection::Ground;
+use resistance::Resistance;
+use resistance::resistance_of;
 
 // The radiation resistance at 0.2 wavelengths.
 const RINTW: f32 = 18.06;

@@ -1,5 +1,5 @@
 use Rattle.limits.specs.Refusals.{firstRefusal}
-use Rattle.antenna.specs.Lookups.{lookupRefusal}
+use Rattle.lookup_refusals.specs.LookupRefusals.{lookupRefusal}
 use Rattle.antenna.proofs.ByteTables.{is-table, no-table}
 use borrow.Author.Needs.{needs}
 use Rattle.antenna.proofs.byte_lookup.bytes_refusal.Statement.{statement}

@@ -4,7 +4,7 @@ use mir.Syntax.{w32}
 use mir.ValLaws.{toZ-ofZ}
 use borrow.Author.Tests.{eq-eqb, ne-eqb}
 use Rattle.antenna.specs.Lookups.{lookupNumber, lookupValues, cardLookupValues}
-use Rattle.antenna.proofs.Accepted.{card-accepted}
+use Rattle.lookup_refusals.proofs.Accepted.{card-accepted}
 use Rattle.antenna.proofs.Bounds.{low-in, high-in}
 use borrow.Author.Needs.{needs}
 use Rattle.antenna.proofs.lookups.card_lookup.Statement.{statement}

@@ -1,7 +1,7 @@
 use mathlib.Core.Path.{sym, _∙_}
 use borrow.Author.Tests.{eq-eqb, ne-eqb}
 use Rattle.antenna.specs.Lookups.{lookupNumber, lookupValues, gainLookupValues}
-use Rattle.antenna.proofs.Accepted.{accepted}
+use Rattle.lookup_refusals.proofs.Accepted.{accepted}
 use Rattle.antenna.proofs.Bounds.{low-in, high-in}
 use borrow.Author.Needs.{needs}
 use Rattle.antenna.proofs.lookups.gain_lookup.Statement.{statement}

@@ -3,7 +3,7 @@ use lib.IntN.{ℤ}
 use mir.Syntax.{w32}
 use mir.ValLaws.{toZ-ofZ}
 use Rattle.parameters.specs.Params.{ioninitOf}
-use Rattle.patterns.specs.Row.{antennaOf}
+use Rattle.patterns.specs.Antenna.{antennaOf}
 use Rattle.deck.specs.Card.{cardOf}
 use borrow.Author.Needs.{needs}
 use Rattle.deck.proofs.card.read_card.Statement.{statement}

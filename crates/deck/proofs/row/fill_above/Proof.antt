@@ -4,7 +4,7 @@ use native.Mathlib.Omega.{arith}
 use borrow.Author.Needs.{needs}
 use lib.Ieee.{Float}
 use Rattle.reflection.specs.declared.angles.Elevation.{Elevation}
-use Rattle.ioncap.specs.Cell.{cellGain}
+use Rattle.cells.specs.Cell.{cellGain}
 use Rattle.deck.specs.Row.{cellAt}
 use Rattle.deck.proofs.Elevations.{column-read}
 use Rattle.deck.proofs.Stored.{Stored, stored-start, stored-step, stored-done}

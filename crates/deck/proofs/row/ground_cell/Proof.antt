@@ -3,7 +3,7 @@ use lib.IntN.{ℤ}
 use mir.Syntax.{w32}
 use mir.ValLaws.{toZ-ofZ}
 use Rattle.finish.specs.Finish.{groundOf}
-use Rattle.ioncap.specs.Cell.{looksUp}
+use Rattle.cells.specs.Cell.{looksUp}
 use Rattle.deck.specs.Row.{groundCell}
 use borrow.Author.Needs.{needs}
 use Rattle.deck.proofs.row.ground_cell.Statement.{statement}

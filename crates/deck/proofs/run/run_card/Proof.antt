@@ -1,8 +1,9 @@
 use mathlib.Core.Path.{sym, _∙_}
 use native.Mathlib.Omega.{arith}
 use Rattle.independence.proofs.Calls.{cleared-length-of, screen-passed, screen-room, entry-screened, entry-refused, entry-accepted}
+use Rattle.deck_state.proofs.Counts.{within}
 use Rattle.deck.specs.Antenna.{theAntenna}
-use Rattle.deck.specs.Run.{countLimit, stateOf}
+use Rattle.deck.specs.Run.{countLimit}
 use Rattle.deck.proofs.Laws.{theLaws}
 use borrow.Author.Needs.{needs}
 use Rattle.deck.proofs.run.run_card.Statement.{statement}
@@ -15,13 +16,13 @@ clear-refused-requires : tie.Need-clear-refused-requires
 clear-refused-requires c κs = search needs
 
 refused-deck-requires : tie.Need-refused-deck-requires
-refused-deck-requires c κs = λ ne. screen-room theAntenna theLaws countLimit (stateOf (c .before .before .before .before .before .before .before .before .args .deck)) _ _ _ (c .before .before .before .before .before .screen .ensures) ne
+refused-deck-requires c κs = search needs
 
 same-length : tie.Need-same-length
 same-length c = search needs
 
 returns : tie.Need-returns
-returns c = entry-screened theAntenna theLaws countLimit _ _ _ _ _ _ (c .before .before .before .before .before .before .screen .ensures) (c .before .if1 .taken) (c .before .before .before .before .clear-refused .ensures) (c .refused-deck .ensures)
+returns c = entry-screened theAntenna theLaws countLimit _ _ _ _ _ _ (c .before .before .before .before .before .before .screen .ensures) (c .before .if1 .taken) (c .before .before .before .before .clear-refused .ensures) (c .refused-deck .ensures ∙ within _ _ (λ ne. screen-room theAntenna theLaws countLimit _ _ _ _ (c .before .before .before .before .before .before .screen .ensures) ne))
 
 fill-card-requires : tie.Need-fill-card-requires
 fill-card-requires c κs = let p = screen-passed theAntenna theLaws countLimit _ _ _ (sym (c .before .before .before .before .before .before .screen .ensures) ∙ c .before .if1 .left) in (cleared-length-of _ _ (p .table) (c .before .before .before .before .clear-refused .ensures), p .input)
@@ -30,13 +31,13 @@ clear-refused-requires-2 : tie.Need-clear-refused-requires-2
 clear-refused-requires-2 c κs = search needs
 
 refused-deck-requires-2 : tie.Need-refused-deck-requires-2
-refused-deck-requires-2 c κs = λ ne. screen-passed theAntenna theLaws countLimit _ _ _ (sym (c .before .before .before .before .before .before .before .before .before .before .before .before .before .before .before .screen .ensures) ∙ c .before .before .before .before .before .before .before .before .before .before .if1 .left) .room
+refused-deck-requires-2 c κs = search needs
 
 same-length-2 : tie.Need-same-length-2
 same-length-2 c = search needs
 
 returns-2 : tie.Need-returns-2
-returns-2 c = entry-refused theAntenna theLaws countLimit _ _ _ _ _ _ _ _ _ (sym (c .before .before .before .before .before .before .before .before .before .before .before .if1 .left) ∙ c .before .before .before .before .before .before .before .before .before .before .before .before .before .before .before .before .screen .ensures) (c .before .before .before .before .before .before .before .before .before .before .before .before .before .before .clear-refused .ensures) (c .before .before .before .before .before .before .before .before .before .fill-card .ensures) (c .before .before .before .before .before .if2 .taken) (c .before .before .before .clear-refused2 .ensures) (c .refused-deck2 .ensures)
+returns-2 c = entry-refused theAntenna theLaws countLimit _ _ _ _ _ _ _ _ _ (sym (c .before .before .before .before .before .before .before .before .before .before .before .if1 .left) ∙ c .before .before .before .before .before .before .before .before .before .before .before .before .before .before .before .before .screen .ensures) (c .before .before .before .before .before .before .before .before .before .before .before .before .before .before .clear-refused .ensures) (c .before .before .before .before .before .before .before .before .before .fill-card .ensures) (c .before .before .before .before .before .if2 .taken) (c .before .before .before .clear-refused2 .ensures) (c .refused-deck2 .ensures ∙ within _ _ (λ ne. screen-passed theAntenna theLaws countLimit _ _ _ (sym (c .before .before .before .before .before .before .before .before .before .before .before .before .before .before .before .before .screen .ensures) ∙ c .before .before .before .before .before .before .before .before .before .before .before .if1 .left) .room))
 
 add-t19 : tie.Need-add-t19
 add-t19 c = let p = screen-passed theAntenna theLaws countLimit _ _ _ (sym (c .before .before .before .before .before .before .before .before .before .before .before .before .screen .ensures) ∙ c .before .before .before .before .before .before .before .if1 .left) in omega (arith, p .room)

@@ -1,6 +1,8 @@
+use mathlib.Core.Path.{_∙_}
 use Rattle.independence.proofs.Calls.{screen-room-malformed, entry-malformed}
+use Rattle.deck_state.proofs.Counts.{within}
 use Rattle.deck.specs.Antenna.{theAntenna}
-use Rattle.deck.specs.Run.{countLimit, stateOf}
+use Rattle.deck.specs.Run.{countLimit}
 use Rattle.deck.proofs.Laws.{theLaws}
 use borrow.Author.Needs.{needs}
 use Rattle.deck.proofs.run.run_malformed.Statement.{statement}
@@ -13,13 +15,13 @@ clear-refused-requires : tie.Need-clear-refused-requires
 clear-refused-requires c κs = search needs
 
 refused-deck-requires : tie.Need-refused-deck-requires
-refused-deck-requires c κs = λ ne. screen-room-malformed theAntenna theLaws countLimit (stateOf (c .before .before .before .before .before .before .before .args .deck)) _ _ (c .before .before .before .before .screen-malformed .ensures) ne
+refused-deck-requires c κs = search needs
 
 same-length : tie.Need-same-length
 same-length c = search needs
 
 returns : tie.Need-returns
-returns c = entry-malformed theAntenna theLaws countLimit _ _ _ _ _ (c .before .before .before .before .before .screen-malformed .ensures) (c .before .before .before .clear-refused .ensures) (c .refused-deck .ensures)
+returns c = entry-malformed theAntenna theLaws countLimit _ _ _ _ _ (c .before .before .before .before .before .screen-malformed .ensures) (c .before .before .before .clear-refused .ensures) (c .refused-deck .ensures ∙ within _ _ (λ ne. screen-room-malformed theAntenna theLaws countLimit _ _ _ (c .before .before .before .before .before .screen-malformed .ensures) ne))
 
 pub run-malformed-spec : {M : Type 1} → statement M
 run-malformed-spec =

@@ -1,6 +1,6 @@
 use mir.Syntax.{w32}
 use mir.ValLaws.{toZ-ofZ}
-use Rattle.patterns.specs.Row.{antennaOf}
+use Rattle.patterns.specs.Antenna.{antennaOf}
 use borrow.Author.Needs.{needs}
 use Rattle.patterns.proofs.antenna.antenna_of.Statement.{statement}
 use Rattle.patterns.proofs.antenna.antenna_of.Tie as tie

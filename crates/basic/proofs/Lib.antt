@@ -1,0 +1,3 @@
+pub mod Absolute
+pub mod WholePart
+pub mod Cutting

@@ -1,0 +1,104 @@
+// A cell above the ground: `iongain2`, and what `iongain` makes of it for types 3 and 4.
+ghost use mathlib.Core.Path.{_≡_};
+ghost use Rattle.cells.specs.Cell.{powerCell, curtainCell, cellOf, straightUp, blendOf, looksUp, cellGain};
+use curtain::CurtainCard;
+use curtain::CurtainRow;
+use elementary::SineCosine;
+use patterns::Pattern;
+use reflection::Azimuth;
+use reflection::Elevation;
+use rows::Row;
+
+fn power_cell(row: Row, azimuth: Azimuth, e: Elevation) -> f32
+    ensures { λ r. ⌜ r ≡ powerCell row azimuth e ⌝ }
+{
+    let Row {
+        kop,
+        pattern,
+        soil,
+        eff,
+        sok,
+        ..
+    } = row;
+    let ground = reflection::reflect(soil, e);
+    let rain = patterns::power_of(pattern, azimuth, e, ground);
+    finish::with_floor(kop, finish::decibels(rain), eff, sok)
+}
+
+// The floor is tested before the reflection is computed.
+fn curtain_cell(
+    card: CurtainCard,
+    spacings: CurtainRow,
+    row: Row,
+    azimuth: Azimuth,
+    delta: f32,
+    e: Elevation,
+) -> f32
+    ensures { λ r. ⌜ r ≡ curtainCell card spacings row azimuth delta e ⌝ }
+{
+    let Row {
+        kop,
+        soil,
+        eff,
+        sok,
+        threshold,
+        ..
+    } = row;
+    let gain = curtain::curtain_cell(card, spacings, azimuth, soil, delta, e, threshold);
+    let rain = curtain::curtain_rain(gain);
+    let added = curtain::curtain_sok(gain, sok);
+    finish::with_floor(kop, rain, eff, added)
+}
+
+fn cell(row: Row, azimuth: Azimuth, delta: f32, e: Elevation) -> f32
+    ensures { λ r. ⌜ r ≡ cellOf row azimuth delta e ⌝ }
+{
+    let pattern = row.pattern;
+    match pattern {
+        Pattern::Curtain(card, spacings) => curtain_cell(card, spacings, row, azimuth, delta, e),
+        _ => power_cell(row, azimuth, e),
+    }
+}
+
+// Types 3 and 4 look straight up, at 1.570796 and azimuth 0: the same for a whole row.
+pub fn straight_up(row: Row) -> f32
+    ensures { λ r. ⌜ r ≡ straightUp row ⌝ }
+{
+    let SineCosine { sine, cosine } = elementary::sin_cos(1.570796);
+    let azimuth = reflection::azimuth_of(0.0);
+    cell(
+        row,
+        azimuth,
+        1.570796,
+        reflection::elevation_of(cosine, sine),
+    )
+}
+
+// By the fourth power of the elevation's sine, so that straight up reads the same at each azimuth.
+pub fn blend(e: Elevation, up: f32, rain: f32) -> f32
+    ensures { λ r. ⌜ r ≡ blendOf e up rain ⌝ }
+{
+    let gmorph = e.s;
+    up * gmorph + rain * (1.0 - gmorph)
+}
+
+pub fn looks_up(kop: i32) -> bool
+    ensures { λ r. ⌜ r ≡ looksUp kop ⌝ }
+{
+    match kop {
+        3 => true,
+        4 => true,
+        _ => false,
+    }
+}
+
+// `up` is the row's own gain straight up, which types 3 and 4 alone take.
+pub fn cell_gain(row: Row, up: f32, azimuth: Azimuth, delta: f32, e: Elevation) -> f32
+    ensures { λ r. ⌜ r ≡ cellGain row up azimuth delta e ⌝ }
+{
+    let rain = cell(row, azimuth, delta, e);
+    if looks_up(row.kop) {
+        return blend(e, up, rain);
+    }
+    rain
+}

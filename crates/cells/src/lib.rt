@@ -1,0 +1,7 @@
+// A cell above the ground: `iongain2`, and the blend of types 3 and 4.
+mod cell;
+
+pub use cell::blend;
+pub use cell::cell_gain;
+pub use cell::looks_up;
+pub use cell::straight_up;

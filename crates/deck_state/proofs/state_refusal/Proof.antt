@@ -1,0 +1,44 @@
+use mathlib.Core.Path.{sym, _∙_}
+use borrow.Author.Tests.{not-true, not-false}
+use Rattle.limits.specs.Refusals.{firstRefusal}
+use Rattle.deck_state.specs.DeckState.{stateRefusal}
+use borrow.Author.Needs.{needs}
+use Rattle.deck_state.proofs.state_refusal.Statement.{statement}
+use Rattle.deck_state.proofs.state_refusal.Tie as tie
+
+is-full-requires : tie.Need-is-full-requires
+is-full-requires c κs = search needs
+
+returns : tie.Need-returns
+unfolding stateRefusal firstRefusal
+returns c = simp (sym (c .before .is-full .ensures) ∙ c .if1 .taken)
+
+is-finite-requires : tie.Need-is-finite-requires
+is-finite-requires c κs = search needs
+
+returns-2 : tie.Need-returns-2
+unfolding stateRefusal firstRefusal
+returns-2 c = simp (sym (c .before .before .before .is-full .ensures) ∙ c .before .before .if1 .left, sym (c .before .is-finite .ensures) ∙ not-true _ (c .if2 .taken))
+
+is-table-requires : tie.Need-is-table-requires
+is-table-requires c κs = search needs
+
+returns-3 : tie.Need-returns-3
+unfolding stateRefusal firstRefusal
+returns-3 c = simp (sym (c .before .before .before .before .before .is-full .ensures) ∙ c .before .before .before .before .if1 .left, sym (c .before .before .before .is-finite .ensures) ∙ not-false _ (c .before .before .if2 .left), sym (c .before .is-table .ensures) ∙ not-true _ (c .if3 .taken))
+
+returns-4 : tie.Need-returns-4
+unfolding stateRefusal firstRefusal
+returns-4 c = simp (sym (c .before .before .before .before .before .is-full .ensures) ∙ c .before .before .before .before .if1 .left, sym (c .before .before .before .is-finite .ensures) ∙ not-false _ (c .before .before .if2 .left), sym (c .before .is-table .ensures) ∙ not-false _ (c .if3 .left))
+
+pub state-refusal-spec : {M : Type 1} → statement M
+state-refusal-spec =
+    tie.close
+    (tie.spec
+    is-full-requires
+    returns
+    is-finite-requires
+    returns-2
+    is-table-requires
+    returns-3
+    returns-4)

@@ -1,0 +1,70 @@
+use mathlib.Core.Path.{_≡_, ap, _∙_}
+use lib.IntN.{ℤ}
+use mir.Syntax.{w32}
+use mir.ValLaws.{toZ-ofZ}
+use Rattle.cells.specs.Cell.{looksUp}
+use Rattle.finish.specs.Finish.{groundOf}
+use Rattle.gain_core.specs.Core.{atGround}
+use borrow.Author.Needs.{needs}
+use Rattle.gain_core.proofs.core.at_ground.Statement.{statement}
+use Rattle.gain_core.proofs.core.at_ground.Tie as tie
+
+ground-gain-requires : tie.Need-ground-gain-requires
+ground-gain-requires c κs = search needs
+
+looks-up-requires : tie.Need-looks-up-requires
+looks-up-requires c κs = search needs
+
+row-of-requires : tie.Need-row-of-requires
+row-of-requires c κs = search needs
+
+enum-known-row : tie.Need-enum-known-row
+enum-known-row c = search needs
+
+enum-told : tie.Need-enum-told
+enum-told c = search needs
+
+returns : tie.Need-returns
+unfolding atGround
+returns c = let s = c .before .before .before .before .before .before .before .args in
+    let back = toZ-ofZ w32 (s .antenna .kop) (search needs) in
+    let e : c .before .before .before .before .looks-up .result ≡ looksUp (s .antenna .kop) = (c .before .before .before .before .looks-up .ensures) ∙ ap looksUp back in
+    let low : c .before .before .before .before .before .ground-gain .result ≡ groundOf (s .antenna .kop) (s .height) = (c .before .before .before .before .before .ground-gain .ensures) ∙ ap (λ (k : ℤ). groundOf k (s .height)) back in
+    rw (← low, ← e, c .before .before .before .if1 .taken, ← c .before .before .row-of .ensures, c .enum-told .given .1)
+
+straight-up-requires : tie.Need-straight-up-requires
+straight-up-requires c κs = search needs
+
+blend-requires : tie.Need-blend-requires
+blend-requires c κs = search needs
+
+returns-2 : tie.Need-returns-2
+unfolding atGround
+returns-2 c = let s = c .before .before .before .before .before .before .before .before .before .before .args in
+    let back = toZ-ofZ w32 (s .antenna .kop) (search needs) in
+    let e : c .before .before .before .before .before .before .before .looks-up .result ≡ looksUp (s .antenna .kop) = (c .before .before .before .before .before .before .before .looks-up .ensures) ∙ ap looksUp back in
+    let low : c .before .before .before .before .before .before .before .before .ground-gain .result ≡ groundOf (s .antenna .kop) (s .height) = (c .before .before .before .before .before .before .before .before .ground-gain .ensures) ∙ ap (λ (k : ℤ). groundOf k (s .height)) back in
+    rw (← low, ← e, c .before .before .before .before .before .before .if1 .taken, ← c .before .before .before .before .before .row-of .ensures, c .before .before .before .row .given .1, ← low, ← c .before .straight-up .ensures, ← c .blend .ensures)
+
+returns-3 : tie.Need-returns-3
+unfolding atGround
+returns-3 c = let s = c .before .before .before .before .args in
+    let back = toZ-ofZ w32 (s .antenna .kop) (search needs) in
+    let e : c .before .looks-up .result ≡ looksUp (s .antenna .kop) = (c .before .looks-up .ensures) ∙ ap looksUp back in
+    let low : c .before .before .ground-gain .result ≡ groundOf (s .antenna .kop) (s .height) = (c .before .before .ground-gain .ensures) ∙ ap (λ (k : ℤ). groundOf k (s .height)) back in
+    rw (← low, ← e, c .if1 .left)
+
+pub at-ground-spec : {M : Type 1} → statement M
+at-ground-spec =
+    tie.close
+    (tie.spec
+    ground-gain-requires
+    looks-up-requires
+    row-of-requires
+    enum-known-row
+    enum-told
+    returns
+    straight-up-requires
+    blend-requires
+    returns-2
+    returns-3)

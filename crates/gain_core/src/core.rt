@@ -1,0 +1,85 @@
+// `iongain` by value, within the limits: at the ground by the carried height, above it without.
+ghost use mathlib.Core.Path.{_≡_};
+ghost use Rattle.gain_core.specs.Core.{upFor, aboveGround, atGround, workOf};
+use cells::blend;
+use cells::cell_gain;
+use cells::looks_up;
+use cells::straight_up;
+use integrals::Turns;
+use patterns::Antenna;
+use reflection::Elevation;
+use rows::Row;
+use rows::RowAnswer;
+
+// `height` is the one left, `turns` the most of an integral's series.
+pub struct Call {
+    pub gain: f32,
+    pub efficiency: f32,
+    pub height: f32,
+    pub turns: Turns,
+}
+
+pub enum Worked {
+    Settled(Call),
+    Unsettled,
+}
+
+// What a row's cells blend with; 0 where the type takes none.
+pub fn up_for(row: Row) -> f32
+    ensures { λ r. ⌜ r ≡ upFor row ⌝ }
+{
+    if looks_up(row.kop) {
+        return straight_up(row);
+    }
+    0.0
+}
+
+pub fn above_ground(antenna: Antenna, fmc: f32, delta: f32, e: Elevation) -> Worked
+    ensures { λ r. ⌜ r ≡ aboveGround antenna fmc delta e ⌝ }
+{
+    let RowAnswer::Settled(row, turns) = rows::row_of(antenna, fmc) else {
+        return Worked::Unsettled;
+    };
+    let gain = cell_gain(row, up_for(row), antenna.azimuth, delta, e);
+    Worked::Settled(Call {
+        gain,
+        efficiency: row.eff,
+        height: row.x,
+        turns,
+    })
+}
+
+// Types 3 and 4 look straight up here too, and leave 1; any other leaves the height as it is.
+pub fn at_ground(antenna: Antenna, fmc: f32, e: Elevation, height: f32) -> Worked
+    ensures { λ r. ⌜ r ≡ atGround antenna fmc e height ⌝ }
+{
+    let kop = antenna.kop;
+    let low = finish::ground_gain(kop, height);
+    if looks_up(kop) {
+        let RowAnswer::Settled(row, turns) = rows::row_of(antenna, fmc) else {
+            return Worked::Unsettled;
+        };
+        return Worked::Settled(Call {
+            gain: blend(e, straight_up(row), low.gain),
+            efficiency: low.efficiency,
+            height: row.x,
+            turns,
+        });
+    }
+    Worked::Settled(Call {
+        gain: low.gain,
+        efficiency: low.efficiency,
+        height,
+        turns: Turns { ci: 0, si: 0 },
+    })
+}
+
+// `e` has the elevation's sine and cosine.
+pub fn work(antenna: Antenna, fmc: f32, delta: f32, e: Elevation, height: f32) -> Worked
+    ensures { λ r. ⌜ r ≡ workOf antenna fmc delta e height ⌝ }
+{
+    if delta <= 0.0 {
+        return at_ground(antenna, fmc, e, height);
+    }
+    above_ground(antenna, fmc, delta, e)
+}

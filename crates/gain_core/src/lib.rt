@@ -1,0 +1,9 @@
+// `iongain` within the limits, by value.
+mod core;
+
+pub use core::Call;
+pub use core::Worked;
+pub use core::above_ground;
+pub use core::at_ground;
+pub use core::up_for;
+pub use core::work;

@@ -1,0 +1,5 @@
+// ln and log10: document 01 section 1.
+mod logarithm;
+
+pub use logarithm::ln;
+pub use logarithm::log10;

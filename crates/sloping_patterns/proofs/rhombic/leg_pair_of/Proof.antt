@@ -1,0 +1,29 @@
+use lib.Ieee.{round, ofBits}
+use Rattle.sloping_patterns.specs.Rhombic.{legPairOf}
+use borrow.Author.Needs.{needs}
+use Rattle.sloping_patterns.proofs.rhombic.leg_pair_of.Statement.{statement}
+use Rattle.sloping_patterns.proofs.rhombic.leg_pair_of.Tie as tie
+
+sin-cos-requires : tie.Need-sin-cos-requires
+sin-cos-requires c κs = search needs
+
+sin-cos-requires-2 : tie.Need-sin-cos-requires-2
+sin-cos-requires-2 c κs = search needs
+
+sin-cos-requires-3 : tie.Need-sin-cos-requires-3
+sin-cos-requires-3 c κs = search needs
+
+returns : tie.Need-returns
+unfolding legPairOf round ofBits
+returns c = rw (
+  ← c .before .before .before .before .before .before .before .before .sin-cos .ensures .0,
+  ← c .before .before .before .before .before .before .before .before .sin-cos .ensures .1,
+  ← c .before .before .before .before .before .before .before .sin-cos2 .ensures .0,
+  ← c .before .before .before .before .before .before .before .sin-cos2 .ensures .1,
+  ← c .before .before .before .before .before .before .sin-cos3 .ensures .0,
+  ← c .before .before .before .before .before .before .sin-cos3 .ensures .1,
+)
+
+pub leg-pair-of-spec : {M : Type 1} → statement M
+leg-pair-of-spec =
+    tie.close (tie.spec sin-cos-requires sin-cos-requires-2 sin-cos-requires-3 returns)

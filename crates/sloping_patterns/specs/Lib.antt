@@ -1,0 +1,3 @@
+pub mod Direction
+pub mod Vee
+pub mod Rhombic

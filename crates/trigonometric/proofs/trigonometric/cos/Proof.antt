@@ -1,0 +1,27 @@
+use mathlib.Core.Path.{refl, sym, _∙_}
+use Rattle.trigonometric.proofs.Reduction.{cosine-is, cosine-out}
+use borrow.Author.Needs.{needs}
+use Rattle.trigonometric.proofs.trigonometric.cos.Statement.{statement}
+use Rattle.trigonometric.proofs.trigonometric.cos.Tie as tie
+
+in-range-requires : tie.Need-in-range-requires
+in-range-requires c κs = search needs
+
+reduce-requires : tie.Need-reduce-requires
+reduce-requires c κs = sym (c .before .in-range .ensures) ∙ c .if1 .taken
+
+cosine-of-requires : tie.Need-cosine-of-requires
+cosine-of-requires c κs = search needs
+
+returns : tie.Need-returns
+returns c =
+    let k = c .before in
+    let d = k .reduce .ensures in
+    cosine-is _ _ _ _ _ _ (sym (k .before .before .in-range .ensures) ∙ k .before .if1 .taken) (d .0) (d .1) refl refl (c .cosine-of .ensures)
+
+returns-2 : tie.Need-returns-2
+returns-2 c = cosine-out _ (sym (c .before .in-range .ensures) ∙ c .if1 .left)
+
+pub cos-spec : {M : Type 1} → statement M
+cos-spec =
+    tie.close (tie.spec in-range-requires reduce-requires cosine-of-requires returns returns-2)

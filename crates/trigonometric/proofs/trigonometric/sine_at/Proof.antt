@@ -1,0 +1,18 @@
+use Rattle.trigonometric.specs.Trigonometric.{sineAt}
+use Rattle.trigonometric.proofs.Reduction.{by-quadrant}
+use borrow.Author.Needs.{needs}
+use Rattle.trigonometric.proofs.trigonometric.sine_at.Statement.{statement}
+use Rattle.trigonometric.proofs.trigonometric.sine_at.Tie as tie
+
+mul-result : tie.Need-mul-result
+mul-result c = search needs
+
+array-read-result : tie.Need-array-read-result
+array-read-result c = search needs
+
+returns : tie.Need-returns
+unfolding sineAt
+returns c = by-quadrant (c .args .q) _ _ _ _ (c .pre)
+
+pub sine-at-spec : {M : Type 1} → statement M
+sine-at-spec = tie.close (tie.spec mul-result array-read-result returns)

@@ -1,0 +1,46 @@
+use mathlib.Core.Path.{_≡_, sym, _∙_, ap, subst}
+use mathlib.Core.Bool.{not}
+use Prim.Native.Nat.{ℕ, _%_, _≤_, _^_}
+use native.Mathlib.Omega.{arith}
+use lib.Dec.{T, lit≤}
+use lib.Ieee.{Float, nan, inf, fin, binary32, ofBits, toBits, isNan}
+use lib.Ieee.Bits.{ofBits-toBits}
+use Rattle.single.proofs.Magnitude.{Mag}
+use Rattle.basic.specs.Basic.{absolute}
+use Rattle.basic.proofs.Absolute.{bits-absolute}
+use Rattle.basic.proofs.WholePart.{absolute-mag, absolute-whole, whole-below, field-below, whole-none, whole-digits}
+use borrow.Author.Needs.{needs}
+use Rattle.trigonometric.proofs.trigonometric.whole_part.Statement.{statement}
+use Rattle.trigonometric.proofs.trigonometric.whole_part.Tie as tie
+
+mag-number : (x : Float) → Mag (2 ^ 21) x → T (not (isNan x))
+unfolding isNan
+mag-number nan m = absurd m
+mag-number (inf s) m = absurd m
+mag-number (fin s n e) m = tt
+
+-- the pattern without its sign bit is the magnitude's
+pattern : (c : tie.Start) → ofBits binary32 (toBits binary32 (c .args .t) % 2147483648) ≡ absolute (c .args .t)
+pattern c = bits-absolute (toBits binary32 (c .args .t)) ∙ ap absolute (ofBits-toBits binary32 (c .args .t) (subst T (sym (c .good .0 .1)) tt))
+
+float-to-bits-b : tie.Need-float-to-bits-b
+float-to-bits-b c = mag-number (c .args .t) (c .pre)
+
+add-result : tie.Need-add-result
+add-result c = search needs
+
+sub-result : tie.Need-sub-result
+sub-result c = let t = c .before .args .t in field-below (absolute t) (toBits binary32 t % 2147483648) (omega arith) (pattern (c .before)) (absolute-mag t (2 ^ 21) (c .before .pre))
+
+shr-result : tie.Need-shr-result
+shr-result c = search needs
+
+returns : tie.Need-returns
+returns c = let t = c .before .args .t in (whole-none (absolute t) (toBits binary32 t % 2147483648) (omega arith) (pattern (c .before)) (absolute-mag t (2 ^ 21) (c .before .pre)) (c .if1 .taken) ∙ absolute-whole t, lit≤ tt)
+
+returns-2 : tie.Need-returns-2
+returns-2 c = let t = c .before .args .t in let e = whole-digits (absolute t) (toBits binary32 t % 2147483648) (omega arith) (pattern (c .before)) (absolute-mag t (2 ^ 21) (c .before .pre)) (c .if1 .left) ∙ absolute-whole t in (e, subst (λ (k : ℕ). k ≤ 2097152) (sym e) (whole-below t (2 ^ 21) (c .before .pre)))
+
+pub whole-part-spec : {M : Type 1} → statement M
+whole-part-spec =
+    tie.close (tie.spec float-to-bits-b add-result sub-result shr-result returns returns-2)

@@ -1,0 +1,2 @@
+pub mod Trigonometric
+pub mod Turns
