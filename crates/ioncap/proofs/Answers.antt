@@ -2,11 +2,14 @@
 use Prim.Native.Nat.{ℕ}
 use mathlib.Core.Path.{_≡_, refl, sym, subst}
 use mathlib.Core.Bool.{Bool, true, false, cond}
+use mathlib.Core.Logic.{_↔_}
+use native.Mathlib.Omega.{arith}
 use lib.Dec.{eqb}
 use lib.Ieee.{Float}
 use Rattle.single.specs.Single.{num}
+use Rattle.limits.proofs.None.{anyHolds, zero-none}
 use Rattle.ioncap.specs.Core.{workNumber, workGain, workEfficiency, workHeight}
-use Rattle.ioncap.specs.Gain.{callRefusal, callWork, answered, gainOf, gainNumber, gainValue, efficiencyValue, heightLeft}
+use Rattle.ioncap.specs.Gain.{callTests, callRefusal, callWork, answered, gainOf, gainNumber, gainValue, efficiencyValue, heightLeft}
 use Rattle.ioncap.specs.Gain.{callNumber, callGain, callEfficiency, callHeight}
 use Rattle.ioncap.specs.declared.core.Worked.{Worked}
 use Rattle.ioncap.specs.declared.core.Worked.the-variants as W
@@ -34,3 +37,9 @@ answers call height r e =
     let refusal = callRefusal call height in
     let m = subst (Means _ _ _ _ height) (sym e) (means (eqb refusal 0) refusal (callWork call height) height) in
     (e, m .0, m .1, m .2, m .3)
+
+-- 0 exactly where none of the listed conditions holds
+pub zero-none-of-call : (call : GainCall) (height : Float) → (callRefusal call height ≡ 0) ↔ (anyHolds (callTests call height) ≡ false)
+unfolding callRefusal
+zero-none-of-call call height =
+    zero-none (callTests call height) (omega arith, (omega arith, (omega arith, (omega arith, (omega arith, (omega arith, tt))))))

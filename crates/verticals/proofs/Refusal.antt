@@ -1,0 +1,42 @@
+-- Refusal 11 arises in a row of types 2, 5 and 8 where, and only where, one of its two integrals is unsettled. Assumes nothing.
+use mathlib.Core.Path.{_≡_, refl}
+use lib.Ieee.{Float}
+use Rattle.single.specs.Single.{_⊞_, _⊠_, num}
+use Rattle.parameters.specs.Length.{monopoleOf}
+use Rattle.parameters.specs.declared.length.Length.{Length}
+use Rattle.integrals.specs.Cisi.{integralsOf, computedNumber}
+use Rattle.integrals.specs.declared.entry.Computed.{Computed}
+use Rattle.integrals.specs.declared.entry.Computed.the-variants as One
+use Rattle.integrals.specs.Pair.{largerOf, pairOf, integralPair}
+use Rattle.verticals.specs.Resistance.{resistanceBy, resistanceOf}
+use Rattle.verticals.specs.Monopole.{monopoleFrom, monopoleRow, monopoleNumber}
+use Rattle.verticals.specs.InvertedL.{rowFrom, invertedLRow, invertedLNumber}
+
+monopole-from : (el1 x d z : Float) (a b : Computed) →
+    monopoleNumber (monopoleFrom el1 x (resistanceBy d z (pairOf a b))) ≡ largerOf (computedNumber a) (computedNumber b)
+unfolding monopoleNumber computedNumber largerOf
+monopole-from el1 x d z (One.Settled v n) (One.Settled w m) = refl
+monopole-from el1 x d z (One.Settled v n) One.Unsettled = refl
+monopole-from el1 x d z One.Unsettled (One.Settled w m) = refl
+monopole-from el1 x d z One.Unsettled One.Unsettled = refl
+
+inverted-from : (fac2 hwave d z : Float) (a b : Computed) →
+    invertedLNumber (rowFrom fac2 hwave (resistanceBy d z (pairOf a b))) ≡ largerOf (computedNumber a) (computedNumber b)
+unfolding invertedLNumber computedNumber largerOf
+inverted-from fac2 hwave d z (One.Settled v n) (One.Settled w m) = refl
+inverted-from fac2 hwave d z (One.Settled v n) One.Unsettled = refl
+inverted-from fac2 hwave d z One.Unsettled (One.Settled w m) = refl
+inverted-from fac2 hwave d z One.Unsettled One.Unsettled = refl
+
+-- the integrals' numbers are 0 or 11
+pub monopole-number : (leg : Length) (wave : Float) →
+    let d = num 2 1 ⊠ monopoleOf leg wave .a in
+    monopoleNumber (monopoleRow leg wave) ≡ largerOf (computedNumber (integralsOf d)) (computedNumber (integralsOf (num 2 1 ⊠ d)))
+unfolding monopoleRow resistanceOf integralPair
+monopole-number leg wave = monopole-from _ _ _ _ (integralsOf _) (integralsOf _)
+
+pub inverted-l-number : (fac hwave : Float) →
+    let d = hwave ⊞ hwave in
+    invertedLNumber (invertedLRow fac hwave) ≡ largerOf (computedNumber (integralsOf d)) (computedNumber (integralsOf (d ⊞ d)))
+unfolding invertedLRow resistanceOf integralPair
+inverted-l-number fac hwave = inverted-from _ _ _ _ (integralsOf _) (integralsOf _)
