@@ -34,7 +34,7 @@ groundFrom antenna e height (R.Settled row turns) =
     Settled (record { gain = blendOf e (straightUp row) (low .gain); efficiency = low .efficiency; height = row .x; turns = turns })
 groundFrom antenna e height R.Unsettled = Unsettled
 
--- elevation 0 or below: the height is the carried one, and stays
+-- elevation 0 or below: the height is the carried one, and stays but for types 3 and 4
 unfoldable pub atGround : Antenna → Float → Elevation → Float → Worked
 atGround antenna fmc e height =
     let low = groundOf (antenna .kop) height in

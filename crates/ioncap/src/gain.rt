@@ -3,7 +3,6 @@ ghost use mathlib.Core.Path.{_≡_};
 ghost use Rattle.ioncap.specs.Gain.{callOutside, mhzOutside, callRefusal, gainOf};
 ghost use Rattle.ioncap.specs.Gain.{gainNumber, gainValue, efficiencyValue, heightLeft};
 ghost use Rattle.ioncap.specs.Gain.{callNumber, callGain, callEfficiency, callHeight};
-use crate::core::Call;
 use crate::core::Worked;
 use crate::core::work;
 use elementary::SineCosine;

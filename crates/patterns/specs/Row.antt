@@ -22,7 +22,7 @@ use Rattle.patterns.specs.declared.pattern.PatternAnswer.the-variants as
 use Rattle.patterns.specs.declared.row.RowAnswer.{RowAnswer}
 use Rattle.patterns.specs.declared.row.RowAnswer.the-variants.{Settled, Unsettled}
 
--- section 8: leg and height are read by kind
+-- section 8: leg and height are read by kind. Type 2's `anh` is a gain, read so too, but no pattern of type 2 takes the height
 unfoldable pub antennaOf : ℤ → Float → IoncapParams → Model → Antenna
 antennaOf kop toaz params model =
     record { kop = kop; params = params; leg = lengthOf (params .anl); height = lengthOf (params .anh); azimuth = azimuthOf toaz; model = model }

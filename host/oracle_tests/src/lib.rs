@@ -16,7 +16,7 @@ pub fn calls() -> usize {
     }
 }
 
-/// Lengths of an answer: the right one, and those that are refused by 7.
+/// Lengths of an answer that are refused by 7.
 pub const WRONG_LENGTHS: [usize; 6] = [0, 1, 5, 11, 13, 24];
 
 /// The right length seven times of eight.
