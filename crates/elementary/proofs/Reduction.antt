@@ -12,8 +12,8 @@ use lib.Ieee.{Float, nan, fin, binary32, round, neg, div, ofBits, ofInt, lt, le}
 use lib.Ieee.Fits.{and-l, and-r}
 use Rattle.single.specs.Single.{_⊞_, _⊟_, _⊠_, num}
 use Rattle.single.proofs.Magnitude.{Mag, mag-of, mul-mag, add-mag, sub-mag}
-use Rattle.elementary.specs.Trigonometric.{twoOverPi, inRange, turns, rest, reduced, quadrantOf, byQuadrant, sinePart, cosinePart, sineAt, cosineAt, sine, cosine}
-use Rattle.elementary.specs.Turns.{argument, wholePart, signed, turnsFloat, quadrantBy}
+use Rattle.elementary.specs.Trigonometric.{twoOverPi, inRange, argument, turns, rest, reduced, quadrantOf, byQuadrant, sinePart, cosinePart, sineAt, cosineAt, sine, cosine}
+use Rattle.elementary.specs.Turns.{wholePart, signed, turnsFloat, quadrantBy}
 use Rattle.elementary.proofs.WholePart.{cut-parts, quadrant-parts, quadrant-below}
 
 module _ (x : Float) (h : inRange x ≡ true) where

@@ -2,12 +2,7 @@
 use Prim.Native.Nat.{ℕ, _*_, _/_, _-_, _%_}
 use mathlib.Core.Bool.{Bool, cond}
 use lib.IntN.{ℤ, pos, negℤ}
-use lib.Ieee.{Float, nan, inf, fin, binary32, up, down, lt, ofInt}
-use Rattle.single.specs.Single.{_⊞_, _⊟_, _⊠_, num}
-use Rattle.elementary.specs.Trigonometric.{twoOverPi}
-
-unfoldable pub argument : Float → Float
-argument x = cond (lt x (num 0 1)) (x ⊠ twoOverPi ⊟ num 5 10) (x ⊠ twoOverPi ⊞ num 5 10)
+use lib.Ieee.{Float, nan, inf, fin, binary32, up, down, ofInt}
 
 -- of the magnitude
 abbrev pub wholePart : Float → ℕ

@@ -4,10 +4,10 @@ ghost use mathlib.Core.Bool.{true};
 ghost use Prim.Native.Nat.{_<_, _≤_, _^_};
 ghost use lib.Ieee.{binary32, mul};
 ghost use Rattle.single.proofs.Magnitude.{Mag};
-ghost use Rattle.elementary.specs.Trigonometric.{inRange, turns, rest, reduced, quadrantOf};
+ghost use Rattle.elementary.specs.Trigonometric.{inRange, argument, turns, rest, reduced, quadrantOf};
 ghost use Rattle.elementary.specs.Trigonometric.{sinePart, cosinePart, sineAt, cosineAt};
 ghost use Rattle.elementary.specs.Trigonometric.{sine, cosine, tangent};
-ghost use Rattle.elementary.specs.Turns.{argument, wholePart, turnsFloat, quadrantBy};
+ghost use Rattle.elementary.specs.Turns.{wholePart, turnsFloat, quadrantBy};
 
 pub struct SineCosine {
     pub sine: f32,

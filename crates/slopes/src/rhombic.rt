@@ -8,9 +8,7 @@ use crate::direction::reflected_of;
 use crate::slope::Slope;
 use reflection::Elevation;
 use reflection::Ground;
-
-// The scalar PI of constants.rs.
-const PI: f32 = 3.1415926;
+use reflection::PI;
 
 // What two legs, or their images, sum to: `a6` and `b6`, or `a7` and `b7`.
 pub struct LegPair {

@@ -1,5 +1,5 @@
 use lib.Ieee.{round, ofBits}
-use Rattle.elementary.specs.Turns.{argument}
+use Rattle.elementary.specs.Trigonometric.{argument}
 use Rattle.elementary.proofs.trigonometric.turns_argument.Statement.{statement}
 use Rattle.elementary.proofs.trigonometric.turns_argument.Tie as tie
 
