@@ -237,11 +237,7 @@ fn gain_bits(checks: &mut Checks) {
         monopole(-0.5, 3.0, con::PIO2),
         0xc23c_0001,
     );
-    checks.bits(
-        "type 2 with leg 0",
-        monopole(0.0, 3.0, 0.5),
-        0xc291_4adc,
-    );
+    checks.bits("type 2 with leg 0", monopole(0.0, 3.0, 0.5), 0xc291_4adc);
 }
 
 /// A call in hexadecimal words: type, azimuth, the nine parameters,
