@@ -1,4 +1,4 @@
-// The entries.
+// The entries of the lookup and the cone; gain.rt has the gain's.
 ghost use mathlib.Core.Path.{_≡_};
 ghost use Rattle.capi.specs.Entries.{lookupResult, lookupAnswer, coneResult, coneAnswer};
 use crate::answers::ANSWER_LENGTH;

@@ -5,7 +5,7 @@ use lib.Ieee.{Float}
 use Rattle.single.specs.Single.{_⊞_, _⊟_, _⊠_, num}
 use Rattle.elementary.specs.Trigonometric.{sine, cosine}
 use Rattle.parameters.specs.Params.{isType}
-use Rattle.reflection.specs.Angles.{azimuthOf, elevationOf}
+use Rattle.reflection.specs.Angles.{rightAngle, azimuthOf, elevationOf}
 use Rattle.reflection.specs.Ground.{reflectOf}
 use Rattle.reflection.specs.declared.angles.Azimuth.{Azimuth}
 use Rattle.reflection.specs.declared.angles.Elevation.{Elevation}
@@ -47,7 +47,7 @@ cellOf row azimuth delta e = cellBy (row .pattern) row azimuth delta e
 
 -- the elevation of the second call, straight up
 abbrev pub upright : Float
-upright = num 1570796 1000000
+upright = rightAngle
 
 -- `rain_90`: at azimuth 0
 unfoldable pub straightUp : Row → Float

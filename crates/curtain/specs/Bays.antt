@@ -1,13 +1,8 @@
 -- Document 01 section 4, curtain: the sum `sx` over the bays. Definitions only.
 use Prim.Native.Nat.{ℕ, zero, suc, _+_, _*_}
-use lib.IntN.{pos}
-use lib.Ieee.{Float, binary32, ofInt}
-use Rattle.single.specs.Single.{_⊞_, _⊠_, num}
+use lib.Ieee.{Float}
+use Rattle.single.specs.Single.{_⊞_, _⊠_, num, whole}
 use Rattle.elementary.specs.Trigonometric.{cosine}
-
--- a whole number as an f32
-abbrev pub whole : ℕ → Float
-whole n = ofInt binary32 (pos n)
 
 -- after n turns: turn i = n + 1 adds 2.0 * (fn_ * fac3 * fac4).cos(), fn_ = 2 * i - 1 + nep
 unfoldable pub sxOf : Float → ℕ → ℕ → Float → Float → Float

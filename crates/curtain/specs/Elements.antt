@@ -5,10 +5,9 @@ use lib.Dec.{ltb}
 use mathlib.Core.List.{List, [], _∷_}
 use lib.ListN.{getD, set}
 use lib.Ieee.{Float, nan, neg}
-use Rattle.single.specs.Single.{_⊞_, _⊟_, _⊠_, num}
+use Rattle.single.specs.Single.{_⊞_, _⊟_, _⊠_, num, whole}
 use Rattle.root.specs.Root.{root}
 use Rattle.elementary.specs.Trigonometric.{sine, cosine}
-use Rattle.curtain.specs.Bays.{whole}
 use Rattle.reflection.specs.Angles.{pi}
 use Rattle.curtain.specs.declared.elements.Waves.{Waves}
 use Rattle.curtain.specs.declared.elements.Sums.{Sums}

@@ -1,12 +1,9 @@
 -- Document 01 section 4, curtain: what `finish` is handed for each answer. Definitions only.
-use lib.Ieee.{Float, neg}
+use lib.Ieee.{Float}
 use Rattle.single.specs.Single.{num}
+use Rattle.finish.specs.Finish.{floor}
 use Rattle.curtain.specs.declared.gain.CurtainGain.{CurtainGain}
 use Rattle.curtain.specs.declared.gain.CurtainGain.the-variants.{Floor, Weak, Decibels}
-
--- FLOOR
-abbrev pub floor : Float
-floor = neg (num 30 1)
 
 -- `rain`, in dB
 unfoldable pub rainOf : CurtainGain → Float

@@ -14,8 +14,8 @@ pub fn curtain_rain(gain: CurtainGain) -> f32
     ensures { λ r. ⌜ r ≡ rainOf gain ⌝ }
 {
     match gain {
-        CurtainGain::Floor => -30.0,
-        CurtainGain::Weak => -30.0,
+        CurtainGain::Floor => finish::FLOOR,
+        CurtainGain::Weak => finish::FLOOR,
         CurtainGain::Decibels(v) => v,
     }
 }

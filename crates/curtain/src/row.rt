@@ -2,9 +2,7 @@
 ghost use mathlib.Core.Path.{_≡_};
 ghost use Rattle.curtain.specs.Row.{spacingOf, rowOf};
 use reflection::Azimuth;
-
-// constants.rs's, not the f32 nearest to pi.
-pub(crate) const PI: f32 = 3.1415926;
+use reflection::PI;
 
 // `cfac` is the leg's cosine, `facsb` and `facdx` are what stays of two products when the
 // elevation's cosine is taken out of them, `fac3` is the bays' phase.

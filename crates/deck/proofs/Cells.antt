@@ -5,9 +5,8 @@ use mathlib.Core.Logic.{_⊎_, inl, inr}
 use Prim.Native.Nat.{ℕ, suc, _<_}
 use lib.Ieee.{Float, le}
 use lib.Ieee.Bits.{is-true, is-false}
-use Rattle.single.specs.Single.{num}
+use Rattle.single.specs.Single.{num, whole}
 use Rattle.reflection.specs.Angles.{waveOf}
-use Rattle.curtain.specs.Bays.{whole}
 use Rattle.rows.specs.Row.{heightFor, rowOf}
 use Rattle.rows.specs.declared.row.Row.{Row}
 use Rattle.rows.specs.declared.row.RowAnswer.{RowAnswer}

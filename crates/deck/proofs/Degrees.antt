@@ -7,9 +7,8 @@ use native.Mathlib.Nat.{eq-or-lt-of-le, le-of-suc-le-suc, not-suc-le-zero}
 use lib.Dec.{T}
 use lib.Ieee.{ofInt, mul, le, lt, eq, round}
 use lib.Ieee.Fits.{and-l, and-r}
-use Rattle.single.specs.Single.{num}
+use Rattle.single.specs.Single.{num, whole}
 use Rattle.reflection.specs.Angles.{radiansOf}
-use Rattle.curtain.specs.Bays.{whole}
 use Rattle.deck.specs.Columns.{elevationAt}
 
 -- all numbers below n, by one test that computes

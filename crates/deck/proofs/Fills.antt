@@ -8,7 +8,7 @@ use native.Mathlib.Numerals.{add-one}
 use lib.IntN.{ℤ}
 use lib.ListN.{set}
 use lib.Ieee.{Float}
-use Rattle.curtain.specs.Bays.{whole}
+use Rattle.single.specs.Single.{whole}
 use Rattle.integrals.specs.declared.entry.Turns.{Turns}
 use Rattle.reflection.specs.declared.angles.Elevation.{Elevation}
 use Rattle.patterns.specs.Antenna.{antennaOf}

@@ -10,20 +10,19 @@ use lib.IntN.{ℤ, pos, natAbs}
 use lib.Ieee.{Float, nan, lt, le}
 use lib.Ieee.Bits.{is-true, is-false}
 use lib.Ieee.Scale.{finite}
-use Rattle.single.specs.Single.{_⊞_, num}
+use Rattle.single.specs.Single.{_⊞_, num, whole}
 use Rattle.parameters.specs.Params.{isType}
 use Rattle.reflection.specs.Angles.{waveOf}
-use Rattle.curtain.specs.Bays.{whole}
 use Rattle.finish.specs.Finish.{floor, efficiencyOf}
 use Rattle.finish.proofs.Laws.{efficiency-same}
 use Rattle.patterns.specs.Antenna.{antennaOf}
 use Rattle.rows.specs.Row.{heightFor}
 use Rattle.rows.proofs.Height.{height-finite}
 use Rattle.cells.specs.Cell as Cell
-use Rattle.gain_core.specs.Core.{aboveGround, workOf}
+use Rattle.gain_core.specs.Core.{aboveGround, workOf, workNumber}
 use Rattle.gain_core.specs.declared.core.Worked.{Worked}
 use Rattle.gain_core.specs.declared.core.Worked.the-variants as W
-use Rattle.gain_core.proofs.Laws.{OfCall, workNumber, AboveFloor, left-above, ground-value, up-ground-same, number-same, floor-above}
+use Rattle.gain_core.proofs.Laws.{OfCall, AboveFloor, left-above, ground-value, up-ground-same, number-same, floor-above}
 use Rattle.independence.specs.Antenna.{Answer, lowered, carriesHeight, looksUp, heightLeft}
 use Rattle.independence.specs.Laws.{Fills, Laws}
 use Rattle.deck.proofs.Degrees.{mhz-in-range}

@@ -1,9 +1,8 @@
 -- The antenna over which demand 3 is stated: cards are the plain fields, a cell's call is the gain call's core. Definitions only.
 use lib.IntN.{pos, natAbs}
-use Rattle.single.specs.Single.{num}
+use Rattle.single.specs.Single.{num, whole}
 use Rattle.parameters.specs.Length.{monopoleOf}
 use Rattle.reflection.specs.Angles.{waveOf}
-use Rattle.curtain.specs.Bays.{whole}
 use Rattle.finish.specs.Finish.{efficiencyOf}
 use Rattle.independence.specs.Antenna.{Antenna}
 use Rattle.deck.specs.declared.fields.Fields.{Fields}

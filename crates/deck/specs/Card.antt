@@ -1,8 +1,7 @@
 -- Document 01 section 8: a card as it is read, and the gain call of a cell. Definitions only.
 use Prim.Native.Nat.{ℕ}
 use lib.Ieee.{Float}
-use Rattle.single.specs.Single.{num}
-use Rattle.curtain.specs.Bays.{whole}
+use Rattle.single.specs.Single.{num, whole}
 use Rattle.patterns.specs.Antenna.{antennaOf}
 use Rattle.gain_core.specs.Core.{workOf}
 use Rattle.gain_core.specs.declared.core.Worked.{Worked}

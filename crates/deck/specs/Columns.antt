@@ -7,7 +7,7 @@ use lib.Ieee.{Float, nan}
 use Rattle.elementary.specs.Trigonometric.{sine, cosine}
 use Rattle.reflection.specs.Angles.{radiansOf, elevationOf}
 use Rattle.reflection.specs.declared.angles.Elevation.{Elevation}
-use Rattle.curtain.specs.Bays.{whole}
+use Rattle.single.specs.Single.{whole}
 
 -- "degrees times 0.017453293 is the elevation"
 abbrev pub elevationAt : ℕ → Float

@@ -52,15 +52,6 @@ fn float(line: &[u8], k: usize) -> f32
     vectors::float(word(line, k))
 }
 
-// The i32 with these bits.
-fn signed(bits: u32) -> i32 {
-    if bits <= 0x7fff_ffff {
-        bits as i32
-    } else {
-        !((0xffff_ffff - bits) as i32)
-    }
-}
-
 fn model_of(number: u32) -> Model {
     match number {
         0 => Model::Compatible,
@@ -90,9 +81,9 @@ fn fields_of(line: &[u8]) -> Fields
     requires { ⌜ 830 ≤ length (now line) ⌝ }
 {
     Fields {
-        kop: signed(word(line, 0)),
-        first: signed(word(line, 1)),
-        last: signed(word(line, 2)),
+        kop: vectors::signed(word(line, 0)),
+        first: vectors::signed(word(line, 1)),
+        last: vectors::signed(word(line, 2)),
         toaz: float(line, 4),
         slots: slots_of(line),
         model: model_of(word(line, 3)),

@@ -2,6 +2,7 @@
 use lib.Ieee.{Float}
 use Rattle.single.specs.Single.{_⊞_, _⊟_, _⊠_, _⊘_, num}
 use Rattle.elementary.specs.Trigonometric.{cosine}
+use Rattle.reflection.specs.Ground.{imagePower}
 use Rattle.reflection.specs.declared.angles.Azimuth.{Azimuth}
 use Rattle.reflection.specs.declared.angles.Elevation.{Elevation}
 use Rattle.reflection.specs.declared.ground.Ground.{Ground}
@@ -10,7 +11,7 @@ use Rattle.dipoles.specs.Row.{sin2kl}
 
 -- xkv of cv and psiv, xkh of ch and psih; hwave2 is twice hwave
 unfoldable pub interference : Float → Float → Float → Float → Float
-interference c psi hwave2 q = c ⊠ c ⊞ num 1 1 ⊟ num 2 1 ⊠ c ⊠ cosine (psi ⊟ hwave2 ⊠ q)
+interference c psi hwave2 q = imagePower c (psi ⊟ hwave2 ⊠ q)
 
 -- `rain`
 unfoldable pub dipoleRain : Dipole → Azimuth → Elevation → Ground → Float

@@ -3,7 +3,6 @@ use mathlib.Core.Path.{_≡_, refl}
 use mathlib.Core.Bool.{Bool, true, false, not, cond}
 use lib.Dec.{T}
 use lib.Ieee.{Float, nan, inf, fin, isNan, le, lt, eq, neg, add, sub, mul, div, round}
-use Rattle.root.specs.Root.{root}
 use Rattle.single.specs.Single.{onPositive}
 use Rattle.elementary.specs.Basic.{absolute, maxSmall, leastPower}
 use Rattle.elementary.specs.Trigonometric.{inRange, sine, cosine, tangent}

@@ -9,7 +9,7 @@ ghost use Rattle.finish.specs.Finish.{
 };
 
 // The least gain that is reported, dB.
-const FLOOR: f32 = -30.0;
+pub const FLOOR: f32 = -30.0;
 
 pub struct Finished {
     pub gain: f32,

@@ -1,5 +1,4 @@
 -- Laws of the gain call that a deck rests on: what the ground gives, what depends on the carried height, the height left, the floor. Assumes nothing.
-use Prim.Native.Nat.{ℕ}
 use mathlib.Core.Path.{_≡_, refl, sym, ap, subst, _∙_}
 use mathlib.Core.Bool.{Bool, true, false, _||_}
 use mathlib.Core.Logic.{_⊎_}
@@ -22,7 +21,7 @@ use Rattle.rows.specs.declared.row.RowAnswer.{RowAnswer}
 use Rattle.rows.specs.declared.row.RowAnswer.the-variants as R
 use Rattle.rows.proofs.Height.{OfRow, row-own}
 use Rattle.cells.specs.Cell.{looksUp, cellBy, cellOf, cellGain, powerCell, curtainCell}
-use Rattle.gain_core.specs.Core.{aboveFrom, aboveGround, groundFrom, atGround, workOf}
+use Rattle.gain_core.specs.Core.{aboveFrom, aboveGround, groundFrom, atGround, workOf, workNumber}
 use Rattle.gain_core.specs.declared.core.Call.{Call}
 use Rattle.gain_core.specs.declared.core.Worked.{Worked}
 use Rattle.gain_core.specs.declared.core.Worked.the-variants.{Settled, Unsettled}
@@ -31,11 +30,6 @@ use Rattle.gain_core.specs.declared.core.Worked.the-variants.{Settled, U
 abbrev pub OfCall : (Call → Type 0) → Worked → Type 0
 OfCall Q (Settled call) = Q call
 OfCall Q Unsettled = Unit {0}
-
--- document 01's number
-abbrev pub workNumber : Worked → ℕ
-workNumber (Settled call) = 0
-workNumber Unsettled = 11
 
 -- ---- above the ground nothing depends on the carried height
 pub above : (antenna : Antenna) (fmc delta : Float) (e : Elevation) (height : Float) → le delta (num 0 1) ≡ false

@@ -1,1 +1,3 @@
 pub mod Laws
+pub mod GroundUp
+pub mod Unsettled

@@ -1,4 +1,5 @@
 -- Document 01 section 6: `iongain` within the limits, by value. The ground path takes the carried height, the path above it does not. Definitions only.
+use Prim.Native.Nat.{ℕ}
 use mathlib.Core.Bool.{cond}
 use lib.Ieee.{Float, le}
 use Rattle.single.specs.Single.{num}
@@ -33,7 +34,7 @@ groundFrom antenna e height (R.Settled row turns) =
     Settled (record { gain = blendOf e (straightUp row) (low .gain); efficiency = low .efficiency; height = row .x; turns = turns })
 groundFrom antenna e height R.Unsettled = Unsettled
 
--- elevation 0 or below: the height is the carried one, and stays
+-- elevation 0 or below: the height is the carried one, and stays but for types 3 and 4
 unfoldable pub atGround : Antenna → Float → Elevation → Float → Worked
 atGround antenna fmc e height =
     let low = groundOf (antenna .kop) height in
@@ -43,3 +44,20 @@ atGround antenna fmc e height =
 unfoldable pub workOf : Antenna → Float → Float → Elevation → Float → Worked
 workOf antenna fmc delta e height =
     cond (le delta (num 0 1)) (atGround antenna fmc e height) (aboveGround antenna fmc delta e)
+
+-- document 01's number, gain, efficiency and height left of the work
+abbrev pub workNumber : Worked → ℕ
+workNumber (Settled call) = 0
+workNumber Unsettled = 11
+
+abbrev pub workGain : Worked → Float
+workGain (Settled call) = call .gain
+workGain Unsettled = num 0 1
+
+abbrev pub workEfficiency : Worked → Float
+workEfficiency (Settled call) = call .efficiency
+workEfficiency Unsettled = num 0 1
+
+abbrev pub workHeight : Worked → Float → Float
+workHeight (Settled call) height = call .height
+workHeight Unsettled height = height

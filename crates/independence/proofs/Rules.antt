@@ -8,7 +8,7 @@ use native.Mathlib.Omega.{arith}
 use lib.Dec.{T, eqb}
 use lib.Ieee.{Float, nan, lt, neg, round}
 use Rattle.single.specs.Single.{num}
-use Rattle.curtain.specs.Gain.{floor}
+use Rattle.finish.specs.Finish.{floor}
 use Rattle.table.specs.Table.{gainAt, cleared}
 use Rattle.independence.specs.Antenna.{Antenna, lowered, looksUp}
 use Rattle.independence.specs.Laws.{Fills, Laws}

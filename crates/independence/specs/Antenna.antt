@@ -4,7 +4,7 @@ use mathlib.Core.Bool.{Bool, _||_, cond}
 use lib.Dec.{eqb}
 use lib.Ieee.{Float}
 use Rattle.single.specs.Single.{_⊞_, num}
-use Rattle.curtain.specs.Gain.{floor}
+use Rattle.finish.specs.Finish.{floor}
 
 -- what a gain call answers: its refusal (0 if accepted), the gain, the efficiency and the height left
 pub record Answer : Type 0 where

@@ -9,7 +9,7 @@ use lib.ListN.{length, getD}
 use lib.Dec.{T, eqb}
 use lib.Ieee.{Float, nan, lt}
 use Rattle.single.specs.Single.{num}
-use Rattle.curtain.specs.Gain.{floor}
+use Rattle.finish.specs.Finish.{floor}
 use Rattle.table.specs.Table.{rowCount, columnCount, gainAt}
 use Rattle.independence.specs.Antenna.{Antenna, lowered, carriesHeight, looksUp, heightLeft}
 use Rattle.independence.specs.Filling.{callAt, rowsOf}

@@ -7,7 +7,7 @@ use lib.Dec.{T, eqb}
 use lib.Ieee.{Float, nan, lt}
 use lib.Ieee.Scale.{finite}
 use Rattle.single.specs.Single.{num}
-use Rattle.curtain.specs.Gain.{floor}
+use Rattle.finish.specs.Finish.{floor}
 use Rattle.table.specs.Table.{rowCount, columnCount}
 use Rattle.independence.specs.Antenna.{Antenna, lowered, carriesHeight, looksUp, heightLeft}
 

@@ -1,5 +1,4 @@
 -- Number and values together tell answers apart, so that `cisi`'s contract gives its answer whole. Assumes nothing.
-use Prim.Native.Nat.{ℕ}
 use mathlib.Core.Path.{_≡_, refl, ap}
 use native.Mathlib.Omega.{arith}
 use Rattle.integrals.specs.Cisi.{answerNumber, answerValues}

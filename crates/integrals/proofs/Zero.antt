@@ -1,8 +1,7 @@
 -- Document 01 section 3: at 0, of either sign, the integrals are -infinity and 0, after one turn of each series. Assumes nothing.
 use mathlib.Core.Path.{_≡_, refl}
-use mathlib.Core.Bool.{true, false}
-use lib.IntN.{pos}
-use lib.Ieee.{inf, fin, neg, round, lt, le, add, sub, mul, div}
+use mathlib.Core.Bool.{true}
+use lib.Ieee.{inf, neg, round, lt, le, add, sub, mul, div}
 use Rattle.single.specs.Single.{num, onPositive}
 use Rattle.elementary.specs.Basic.{absolute}
 use Rattle.elementary.specs.Logarithm.{logarithm}

@@ -6,7 +6,7 @@ use mathlib.Core.List.{List, [], _∷_}
 use native.Mathlib.Nat.{le-of-suc-le-suc, not-suc-le-zero}
 use lib.Dec.{T, eqb, eqb→eq}
 use lib.ListN.{length, getD}
-use lib.Ieee.{Float, nan, lt, round}
+use lib.Ieee.{Float, nan, lt, round, ofInt}
 use lib.Ieee.Fits.{and-l, and-r}
 use Rattle.inverted_cone.specs.InvertedCone.{coneFreqs, coneElevs, cone}
 
@@ -44,7 +44,7 @@ shape : Bool
 shape = rises coneFreqs && (rises coneElevs && (wide cone && (eqb (length cone) (length coneElevs) && eqb 22 (length coneFreqs))))
 
 passes : T shape
-unfolding shape rises risesFrom wide coneFreqs coneElevs cone round lt
+unfolding shape rises risesFrom wide coneFreqs coneElevs cone round ofInt lt
 passes = tt
 
 pub freqs-rise : (i : ℕ) → suc i < length coneFreqs → T (lt (getD coneFreqs i nan) (getD coneFreqs (suc i) nan))

@@ -5,14 +5,11 @@ use mathlib.Core.List.{List, [], _∷_}
 use lib.Dec.{eqb}
 use lib.ListN.{getD, drop, replicate}
 use lib.Ieee.{Float, nan, neg, le}
-use Rattle.single.specs.Single.{_⊞_, _⊟_, _⊠_, _⊘_, num}
+use Rattle.single.specs.Single.{_⊞_, _⊟_, _⊠_, _⊘_, num, whole}
 use Rattle.limits.specs.Refusals.{firstRefusal}
 use Rattle.limits.specs.Tests.{anyOutside, numbersTest}
 use Rattle.inverted_cone.specs.declared.cone.ConeGain.{ConeGain}
 use Rattle.inverted_cone.specs.declared.cone.ConeGain.the-variants.{Accepted, Refused}
-
-abbrev pub whole : ℕ → Float
-whole n = num n 1
 
 -- tenths of either sign
 abbrev pub plus : ℕ → Float

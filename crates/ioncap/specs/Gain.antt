@@ -10,7 +10,7 @@ use Rattle.reflection.specs.Angles.{elevationOf}
 use Rattle.limits.specs.Refusals.{Test, firstRefusal}
 use Rattle.limits.specs.Tests.{anyOutside, heightTest, inputTests}
 use Rattle.patterns.specs.Antenna.{antennaOf}
-use Rattle.gain_core.specs.Core.{workOf}
+use Rattle.gain_core.specs.Core.{workOf, workNumber, workGain, workEfficiency, workHeight}
 use Rattle.gain_core.specs.declared.core.Worked.{Worked}
 use Rattle.gain_core.specs.declared.core.Worked.the-variants as W
 use Rattle.ioncap.specs.declared.gain.GainCall.{GainCall}
@@ -68,3 +68,17 @@ efficiencyValue (Refused refusal) = num 0 1
 unfoldable pub heightLeft : Gain → Float → Float
 heightLeft (Accepted answer) height = answer .height
 heightLeft (Refused refusal) height = height
+
+-- what a call answers by these: the first refusal, else the work's own; a refused call answers zeros and keeps the height
+unfoldable pub callNumber : GainCall → Float → ℕ
+callNumber call height =
+    let refusal = callRefusal call height in cond (eqb refusal 0) (workNumber (callWork call height)) refusal
+
+unfoldable pub callGain : GainCall → Float → Float
+callGain call height = cond (eqb (callRefusal call height) 0) (workGain (callWork call height)) (num 0 1)
+
+unfoldable pub callEfficiency : GainCall → Float → Float
+callEfficiency call height = cond (eqb (callRefusal call height) 0) (workEfficiency (callWork call height)) (num 0 1)
+
+unfoldable pub callHeight : GainCall → Float → Float
+callHeight call height = cond (eqb (callRefusal call height) 0) (workHeight (callWork call height) height) height

@@ -1,8 +1,9 @@
 // The public gain call, by value.
 ghost use mathlib.Core.Path.{_≡_};
-ghost use Rattle.ioncap.specs.Gain.{callOutside, mhzOutside, callRefusal, gainOf, heightLeft};
+ghost use Rattle.ioncap.specs.Gain.{callOutside, mhzOutside, callRefusal, gainOf};
+ghost use Rattle.ioncap.specs.Gain.{gainNumber, gainValue, efficiencyValue, heightLeft};
+ghost use Rattle.ioncap.specs.Gain.{callNumber, callGain, callEfficiency, callHeight};
 use elementary::SineCosine;
-use gain_core::Call;
 use gain_core::Worked;
 use gain_core::work;
 use parameters::IoncapParams;
@@ -73,7 +74,9 @@ fn call_refusal(call: GainCall, height: f32) -> u32
 }
 
 pub fn gain_of(call: GainCall, height: f32) -> Gain
-    ensures { λ r. ⌜ r ≡ gainOf call height ⌝ }
+    ensures { λ r. ⌜ (r ≡ gainOf call height)
+        × (gainNumber r ≡ callNumber call height) × (gainValue r ≡ callGain call height)
+        × (efficiencyValue r ≡ callEfficiency call height) × (heightLeft r height ≡ callHeight call height) ⌝ }
 {
     let refusal = call_refusal(call, height);
     if refusal != 0 {

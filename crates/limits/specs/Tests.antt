@@ -15,9 +15,12 @@ use Rattle.limits.specs.Refusals.{Test, refuse, firstRefusal}
 unfoldable pub isIoncapType : ℤ → Bool
 isIoncapType kop = leZ (pos 1) kop && leZ kop (pos 10)
 
+abbrev pub most : Float
+most = num 1000 1
+
 -- over 1,000 in magnitude, infinite or not a number
 unfoldable pub outside : Float → Bool
-outside x = not (le (absolute x) (num 1000 1))
+outside x = not (le (absolute x) most)
 
 unfoldable pub anyOutside : List Float → Bool
 anyOutside [] = false

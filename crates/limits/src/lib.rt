@@ -2,6 +2,7 @@
 mod numbers;
 mod refusal;
 
+pub use numbers::MOST;
 pub use numbers::any_outside;
 pub use numbers::is_finite;
 pub use refusal::input_refusal;

@@ -3,7 +3,7 @@ ghost use mathlib.Core.Path.{_≡_};
 ghost use lib.Ieee.Scale.{finite};
 ghost use Rattle.limits.specs.Tests.{outside, anyOutside};
 
-const MOST: f32 = 1000.0;
+pub const MOST: f32 = 1000.0;
 
 pub fn is_finite(x: f32) -> bool
     ensures { λ r. ⌜ r ≡ finite x ⌝ }

@@ -1,13 +1,13 @@
 -- ln's argument as m times 2 ^ e: every positive number has such an m and e, no other, and its logarithm is `lnAt` of them. Assumes nothing.
 use mathlib.Core.Path.{_≡_, refl, sym, ap, subst, _∙_}
-use mathlib.Core.Bool.{Bool, true, false, not, cond, _&&_}
+use mathlib.Core.Bool.{Bool, true, false, not}
 use mathlib.Core.Logic.{_⊎_, inl, inr}
-use Prim.Native.Nat.{ℕ, zero, suc, _+_, _-_, _*_, _/_, _%_, _^_, _≤_, _<_}
+use Prim.Native.Nat.{ℕ, zero, suc, _+_, _-_, _*_, _^_, _≤_, _<_}
 use native.Mathlib.Omega.{arith}
-use native.Mathlib.Nat.{mul-one, one-mul, mul-assoc, mul-comm, mul-right-comm, mul-pos, mul-le-mul, le-refl, le-trans, eq-of-mul-eq-mul-right, not-le-of-lt, lt-of-not-le, lt-of-lt-of-le, lt-of-le-of-lt, zero-lt-suc, le-of-suc-le-suc, le-of-mul-le-mul-right, pow-succ'}
-use lib.Dec.{T, leb, ltb, leb→le, nleb→lt, lit<}
+use native.Mathlib.Nat.{mul-one, one-mul, mul-assoc, mul-right-comm, mul-pos, mul-le-mul, le-refl, eq-of-mul-eq-mul-right, lt-of-not-le, lt-of-lt-of-le, zero-lt-suc, le-of-suc-le-suc, le-of-mul-le-mul-right, pow-succ'}
+use lib.Dec.{T, leb, leb→le, nleb→lt}
 use lib.IntN.{ℤ, pos, negsuc}
-use lib.Pow.{pow-pos, pow-add, pow-mono, pow-lt, shl-lt}
+use lib.Pow.{pow-pos, pow-add, pow-mono, shl-lt}
 use lib.Ieee.{Float, nan, inf, fin, binary32, round, ofInt, size, fits, up, down, minus, lt, le}
 use lib.Ieee.Digits.{size-lt, size-le, size-reaches, minus-val}
 use lib.Ieee.Fits.{round-fits}

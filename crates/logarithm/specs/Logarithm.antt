@@ -25,7 +25,7 @@ leastDigits = num 70710677 100000000
 abbrev pub digitsEnd : Float
 digitsEnd = num 14142135 10000000
 
--- y = m times 2 ^ e exactly, 0.70710677 <= m < 1.4142135. Each y above 0 has one such m and e, and its logarithm is lnAt of them: proofs/Split.antt
+-- y = m times 2 ^ e exactly, 0.70710677 <= m < 1.4142135. Each finite y above 0 has one such m and e, and its logarithm is lnAt of them: proofs/Split.antt
 pub record Split (y m : Float) (e : ℤ) : Type 0 where
   pub exact : HasValue y false (numerator m * up e) (denominator m * down e)
   pub least : T (le leastDigits m)

@@ -1,4 +1,4 @@
--- Document 01 section 8: lengths by kind, and their two roles in `iongain2` against the call's wave. Definitions only.
+-- Document 01 section 8: lengths by kind, and their three roles in `iongain2` against the call's wave. Definitions only.
 use mathlib.Core.Bool.{cond}
 use lib.Ieee.{Float, neg, lt}
 use Rattle.single.specs.Single.{_⊠_, _⊘_, num}

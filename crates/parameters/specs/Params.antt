@@ -24,22 +24,22 @@ isType (pos k) n = eqb k n
 isType (negsuc k) n = false
 
 -- zero, for what a type does not take
-abbrev pub o : Float
-o = num 0 1
+abbrev pub none : Float
+none = num 0 1
 
 -- Angle, leg, height and extras by type. Type 5's leg is a quarter of a wavelength.
 unfoldable pub ioninitOf : ℤ → List Float → IoncapParams
 ioninitOf index parm =
     let s = slot parm in
     let params = paramsOf parm in
-    cond (isType index 1) (params (s 6) (s 7) (s 8) (o ∷ o ∷ o ∷ o ∷ []))
-    (cond (isType index 2) (params o (s 6) (s 7) (o ∷ o ∷ o ∷ o ∷ []))
-    (cond (isType index 3) (params o (s 6) (s 7) (s 8 ∷ o ∷ o ∷ o ∷ []))
-    (cond (isType index 4) (params o (s 6) (s 7) (s 8 ∷ o ∷ o ∷ o ∷ []))
-    (cond (isType index 5) (params o (neg (num 25 100)) o (s 6 ∷ o ∷ o ∷ o ∷ []))
+    cond (isType index 1) (params (s 6) (s 7) (s 8) (none ∷ none ∷ none ∷ none ∷ []))
+    (cond (isType index 2) (params none (s 6) (s 7) (none ∷ none ∷ none ∷ none ∷ []))
+    (cond (isType index 3) (params none (s 6) (s 7) (s 8 ∷ none ∷ none ∷ none ∷ []))
+    (cond (isType index 4) (params none (s 6) (s 7) (s 8 ∷ none ∷ none ∷ none ∷ []))
+    (cond (isType index 5) (params none (neg (num 25 100)) none (s 6 ∷ none ∷ none ∷ none ∷ []))
     (cond (isType index 6) (params (s 6) (s 7) (s 8) (s 9 ∷ s 10 ∷ s 11 ∷ s 12 ∷ []))
-    (cond (isType index 7) (params (s 6) (s 7) (s 8) (s 9 ∷ o ∷ o ∷ o ∷ []))
-    (cond (isType index 8) (params o (s 6) (s 7) (o ∷ o ∷ o ∷ o ∷ []))
-    (cond (isType index 9) (params (s 6) (s 7) (s 8) (s 9 ∷ o ∷ o ∷ o ∷ []))
-    (cond (isType index 10) (params (s 6) (s 7) (s 8) (s 9 ∷ s 10 ∷ o ∷ o ∷ []))
-    (params o o o (o ∷ o ∷ o ∷ o ∷ [])))))))))))
+    (cond (isType index 7) (params (s 6) (s 7) (s 8) (s 9 ∷ none ∷ none ∷ none ∷ []))
+    (cond (isType index 8) (params none (s 6) (s 7) (none ∷ none ∷ none ∷ none ∷ []))
+    (cond (isType index 9) (params (s 6) (s 7) (s 8) (s 9 ∷ none ∷ none ∷ none ∷ []))
+    (cond (isType index 10) (params (s 6) (s 7) (s 8) (s 9 ∷ s 10 ∷ none ∷ none ∷ []))
+    (params none none none (none ∷ none ∷ none ∷ none ∷ [])))))))))))

@@ -1,4 +1,4 @@
--- The two roles as `iongain2` writes them, on the number with its sign. Definitions only: proofs/Signed.antt says that reading a number's kind first changes nothing.
+-- The three roles as `iongain2` writes them, on the number with its sign. Definitions only: proofs/Signed.antt says that reading a number's kind first changes nothing.
 use mathlib.Core.Bool.{cond}
 use lib.Ieee.{Float, lt}
 use Rattle.single.specs.Single.{_⊠_, _⊘_, num}

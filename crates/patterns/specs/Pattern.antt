@@ -79,7 +79,7 @@ patternOf antenna wave =
     (cond (isType kop 2 || isType kop 5) (monopoleFor (antenna .leg) wave)
     (settledAt P.Other))))))))
 
--- `rain` before label 385. The curtain's is in dB already: see `cellOf`
+-- `rain` before label 385. The curtain's is in dB already: see `curtainCell`, cells/specs/Cell.antt
 unfoldable pub powerOf : Pattern → Azimuth → Elevation → Ground → Float
 powerOf (P.Rhombic legs) azimuth e ground = rhombicOf legs e ground
 powerOf (P.Interlaced legs offset) azimuth e ground = interlacedOf legs offset e ground

@@ -10,8 +10,6 @@ use integrals::Turns;
 use interlaced::Offset;
 use inverted_l::InvertedL;
 use inverted_l::InvertedLRow;
-use parameters::HeightInWaves;
-use parameters::LegInWaves;
 use parameters::Length;
 use reflection::Azimuth;
 use reflection::Elevation;
@@ -21,7 +19,7 @@ use slopes::Slope;
 use verticals::Monopole;
 use verticals::MonopoleRow;
 
-// What a row's cells take, by type. Other: no pattern of another type.
+// What a row's cells take, by type. Other: a type outside 1 to 10, which has no pattern.
 pub enum Pattern {
     Rhombic(Legs),
     Interlaced(Legs, Offset),
@@ -119,7 +117,8 @@ pub fn pattern_of(antenna: Antenna, wave: f32) -> PatternAnswer
     }
 }
 
-// `rain` before it is taken to dB. The curtain's is in dB from the start: cell.rt has it.
+// `rain` before it is taken to dB. The curtain's is in dB from the start: the crate
+// `cells` takes it from `curtain`.
 pub fn power_of(pattern: Pattern, azimuth: Azimuth, elevation: Elevation, ground: Ground) -> f32
     ensures { λ r. ⌜ r ≡ powerOf pattern azimuth elevation ground ⌝ }
 {

@@ -9,6 +9,10 @@ use Rattle.reflection.specs.declared.angles.Elevation.{Elevation}
 abbrev pub pi : Float
 pi = num 31415926 10000000
 
+-- the Rust's 1.570796, for pi / 2
+abbrev pub rightAngle : Float
+rightAngle = num 1570796 1000000
+
 -- the wavelength in metres
 unfoldable pub waveOf : Float → Float
 waveOf fmc = num 2997925 10000 ⊘ fmc

@@ -7,6 +7,7 @@ use Rattle.root.specs.Root.{root}
 use Rattle.elementary.specs.Basic.{absolute}
 use Rattle.elementary.specs.Trigonometric.{sine, cosine}
 use Rattle.elementary.specs.Arctangent.{arctangent}
+use Rattle.reflection.specs.Angles.{rightAngle}
 use Rattle.reflection.specs.declared.angles.Elevation.{Elevation}
 use Rattle.reflection.specs.declared.soil.Soil.{Soil}
 use Rattle.reflection.specs.declared.ground.Ground.{Ground}
@@ -51,7 +52,7 @@ unfoldable pub psivOf : Float → Float → Float
 psivOf a b =
     cond (lt b (num 0 1)) (arctangent (a ⊘ b) ⊞ num 3141593 1000000)
     (cond (eq b (num 0 1))
-    (cond (lt a (num 0 1)) (neg (num 1570796 1000000)) (cond (eq a (num 0 1)) (num 0 1) (num 1570796 1000000)))
+    (cond (lt a (num 0 1)) (neg rightAngle) (cond (eq a (num 0 1)) (num 0 1) rightAngle))
     (arctangent (a ⊘ b)))
 
 unfoldable pub verticalOf : Soil → Elevation → Refraction → Coefficient
@@ -83,3 +84,7 @@ reflectOf soil e =
       psih = horizontal .phase;
       psiv = vertical .phase;
     }
+
+-- the power of a wave with its image in the ground, which has c of its amplitude and this phase
+abbrev pub imagePower : Float → Float → Float
+imagePower c phase = c ⊠ c ⊞ num 1 1 ⊟ two ⊠ c ⊠ cosine phase

@@ -2,6 +2,9 @@
 ghost use mathlib.Core.Path.{_≡_};
 ghost use Rattle.reflection.specs.Angles.{waveOf, radiansOf, azimuthOf, elevationOf};
 
+// constants.rs's, one step below the f32 nearest to pi.
+pub const PI: f32 = 3.1415926;
+
 pub struct Azimuth {
     pub reta: f32,
     pub sb: f32,

@@ -5,6 +5,7 @@ mod soil;
 
 pub use angles::Azimuth;
 pub use angles::Elevation;
+pub use angles::PI;
 pub use angles::azimuth_of;
 pub use angles::elevation_of;
 pub use angles::radians_of;

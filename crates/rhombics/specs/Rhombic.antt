@@ -2,7 +2,7 @@
 use lib.Ieee.{Float}
 use Rattle.single.specs.Single.{_⊞_, _⊟_, _⊠_, num}
 use Rattle.elementary.specs.Basic.{square}
-use Rattle.elementary.specs.Trigonometric.{cosine}
+use Rattle.reflection.specs.Ground.{imagePower}
 use Rattle.reflection.specs.declared.angles.Elevation.{Elevation}
 use Rattle.reflection.specs.declared.ground.Ground.{Ground}
 use Rattle.rhombics.specs.declared.legs.Legs.{Legs}
@@ -10,7 +10,7 @@ use Rattle.rhombics.specs.Legs.{elfacOf}
 
 -- a wave and its image in the ground: the terms of ch and psih, and of cv and psiv
 unfoldable pub withImage : Float → Float → Float → Float → Float
-withImage c psi hwave q = c ⊠ c ⊞ num 1 1 ⊟ num 2 1 ⊠ c ⊠ cosine (psi ⊟ num 2 1 ⊠ hwave ⊠ q)
+withImage c psi hwave q = imagePower c (psi ⊟ num 2 1 ⊠ hwave ⊠ q)
 
 unfoldable pub rhombicOf : Legs → Elevation → Ground → Float
 rhombicOf legs e ground =

@@ -1,6 +1,6 @@
 // What holds for a row: everything that the antenna and the MHz give.
 ghost use mathlib.Core.Path.{_≡_};
-ghost use Rattle.rows.specs.Row.{offsetFor, heightFor, eff8For, rowFrom, rowOf};
+ghost use Rattle.rows.specs.Row.{offsetFor, heightFor, eff8For, rowOf};
 use integrals::Turns;
 use parameters::IoncapParams;
 use parameters::Length;

@@ -1,7 +1,7 @@
 -- Single precision, IEEE 754's binary32: the notation of every definition. Definitions only.
 use Prim.Native.Nat.{ℕ, zero, suc, _*_, _/_, _^_}
 use mathlib.Core.Bool.{Bool, true, false, cond}
-use lib.IntN.{ℤ}
+use lib.IntN.{ℤ, pos}
 use lib.Ieee.{Float, nan, inf, fin, binary32, round, up, down}
 use lib.Ieee as Ieee
 
@@ -25,6 +25,10 @@ infixl 7 _⊘_
 -- the f32 nearest to a / b: num 31416 10000 is the literal 3.1416
 abbrev pub num : ℕ → ℕ → Float
 num a b = round binary32 false a b
+
+-- a whole number as an f32
+abbrev pub whole : ℕ → Float
+whole n = Ieee.ofInt binary32 (pos n)
 
 -- the sign bit: of a zero too. The one NaN has none
 abbrev pub isNegative : Float → Bool

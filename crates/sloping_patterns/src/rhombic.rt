@@ -7,10 +7,8 @@ use crate::direction::direction_of;
 use crate::direction::reflected_of;
 use reflection::Elevation;
 use reflection::Ground;
+use reflection::PI;
 use slopes::Slope;
-
-// The scalar PI of constants.rs.
-const PI: f32 = 3.1415926;
 
 // What two legs, or their images, sum to: `a6` and `b6`, or `a7` and `b7`.
 pub struct LegPair {

@@ -1,6 +1,7 @@
 // The gain call over a carried height that the caller keeps, as `state` in the Rust.
 ghost use mathlib.Core.Path.{_≡_};
-ghost use Rattle.ioncap.specs.Gain.{gainOf, heightLeft};
+ghost use Rattle.ioncap.specs.Gain.{gainOf, gainNumber, gainValue, efficiencyValue, heightLeft};
+ghost use Rattle.ioncap.specs.Gain.{callNumber, callGain, callEfficiency};
 use ioncap::Gain;
 use ioncap::GainCall;
 
@@ -10,6 +11,9 @@ pub struct IoncapState {
 
 pub fn iongain(state: &mut IoncapState, call: GainCall) -> Gain
     ensures { λ r. ⌜ (r ≡ gainOf call (now (state .entry) .x))
+        × (gainNumber r ≡ callNumber call (now (state .entry) .x))
+        × (gainValue r ≡ callGain call (now (state .entry) .x))
+        × (efficiencyValue r ≡ callEfficiency call (now (state .entry) .x))
         × (now (state .exit) .x ≡ heightLeft (gainOf call (now (state .entry) .x)) (now (state .entry) .x)) ⌝ }
 {
     let x = state.x;

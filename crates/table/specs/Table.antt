@@ -14,15 +14,20 @@ rowCount = 30
 abbrev pub columnCount : ℕ
 columnCount = 91
 
+-- the gains
+abbrev pub gainCount : ℕ
+gainCount = 2730
+
+-- and the efficiencies: proofs/Counts.antt
 abbrev pub tableLength : ℕ
 tableLength = 2760
 
 -- where the gain at m MHz, from 1, and d degrees, from 0, stands, and where the efficiency at m MHz
 abbrev pub gainAt : ℕ → ℕ → ℕ
-gainAt m d = (m - 1) * 91 + d
+gainAt m d = (m - 1) * columnCount + d
 
 abbrev pub efficiencyAt : ℕ → ℕ
-efficiencyAt m = 2730 + (m - 1)
+efficiencyAt m = gainCount + (m - 1)
 
 unfoldable pub isTable : List Float → Bool
 isTable t = eqb (length t) tableLength

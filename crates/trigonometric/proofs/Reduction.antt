@@ -14,8 +14,8 @@ use Rattle.single.specs.Single.{_⊞_, _⊟_, _⊠_, num}
 use Rattle.single.proofs.Magnitude.{Mag, mag-of, mul-mag, add-mag, sub-mag}
 use Rattle.basic.specs.WholePart.{wholePart, signed}
 use Rattle.basic.proofs.WholePart.{cut-parts}
-use Rattle.trigonometric.specs.Trigonometric.{twoOverPi, inRange, turns, rest, reduced, quadrantOf, byQuadrant, sinePart, cosinePart, sineAt, cosineAt, sine, cosine}
-use Rattle.trigonometric.specs.Turns.{argument, turnsFloat, quadrantBy}
+use Rattle.trigonometric.specs.Trigonometric.{twoOverPi, inRange, argument, turns, rest, reduced, quadrantOf, byQuadrant, sinePart, cosinePart, sineAt, cosineAt, sine, cosine}
+use Rattle.trigonometric.specs.Turns.{turnsFloat, quadrantBy}
 
 quadrant-parts : (s : Bool) (k : ℕ) → quadrantBy s k ≡ quadrantOf (signed s k)
 unfolding quadrantBy

@@ -20,16 +20,21 @@ piece2 = num 48351288 100000000000
 abbrev pub piece3 : Float
 piece3 = num 3138557 10000000000000
 
--- finite, and at most 1,048,576 in magnitude: every comparison with a NaN is false
 abbrev pub limit : Float
 limit = num 1048576 1
 
+-- finite, and at most 1,048,576 in magnitude: every comparison with a NaN is false
 unfoldable pub inRange : Float → Bool
 inRange x = le (neg limit) x && le x limit
 
+-- what n is cut from
+unfoldable pub argument : Float → Float
+argument x = cond (lt x (num 0 1)) (x ⊠ twoOverPi ⊟ num 5 10) (x ⊠ twoOverPi ⊞ num 5 10)
+
 -- n: the quarter turns nearest to the argument
 unfoldable pub turns : Float → ℤ
-turns x = cutToward (cond (lt x (num 0 1)) (x ⊠ twoOverPi ⊟ num 5 10) (x ⊠ twoOverPi ⊞ num 5 10))
+unfolding argument
+turns x = cutToward (argument x)
 
 -- r: what n quarter turns leave of the argument
 unfoldable pub rest : Float → Float → Float

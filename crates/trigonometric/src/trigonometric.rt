@@ -5,10 +5,10 @@ ghost use Prim.Native.Nat.{_<_, _≤_, _^_};
 ghost use lib.Ieee.{binary32, mul};
 ghost use Rattle.single.proofs.Magnitude.{Mag};
 ghost use Rattle.basic.specs.WholePart.{wholePart};
-ghost use Rattle.trigonometric.specs.Trigonometric.{inRange, turns, rest, reduced, quadrantOf};
+ghost use Rattle.trigonometric.specs.Trigonometric.{inRange, argument, turns, rest, reduced, quadrantOf};
 ghost use Rattle.trigonometric.specs.Trigonometric.{sinePart, cosinePart, sineAt, cosineAt};
 ghost use Rattle.trigonometric.specs.Trigonometric.{sine, cosine, tangent};
-ghost use Rattle.trigonometric.specs.Turns.{argument, turnsFloat, quadrantBy};
+ghost use Rattle.trigonometric.specs.Turns.{turnsFloat, quadrantBy};
 
 pub struct SineCosine {
     pub sine: f32,

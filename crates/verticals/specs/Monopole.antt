@@ -2,12 +2,13 @@
 use Prim.Native.Nat.{ℕ}
 use mathlib.Core.Bool.{cond}
 use lib.Ieee.{Float, eq, lt}
-use Rattle.single.specs.Single.{_⊞_, _⊟_, _⊠_, _⊘_, num}
+use Rattle.single.specs.Single.{_⊟_, _⊠_, _⊘_, num}
 use Rattle.elementary.specs.Basic.{square}
 use Rattle.elementary.specs.Trigonometric.{sine, cosine}
 use Rattle.elementary.specs.Arctangent.{arctangent}
 use Rattle.parameters.specs.Length.{legOf, monopoleOf}
 use Rattle.parameters.specs.declared.length.Length.{Length}
+use Rattle.reflection.specs.Ground.{imagePower}
 use Rattle.reflection.specs.declared.angles.Elevation.{Elevation}
 use Rattle.reflection.specs.declared.ground.Ground.{Ground}
 use Rattle.resistance.specs.Resistance.{resistanceOf}
@@ -53,11 +54,10 @@ unfoldable pub monopoleRain : Monopole → Elevation → Ground → Float
 monopoleRain row elevation ground =
     let q = elevation .q in
     let t = elevation .t in
-    let cv = ground .cv in
     let hwave = row .hwave in
     let top = cosine (hwave ⊠ q) ⊟ row .chwave in
     let bprim = arctangent ((sine (hwave ⊠ q) ⊟ q ⊠ row .shwave) ⊘ notZero top) in
     num 30 1 ⊠ (
     square (top ⊘ (t ⊠ cosine bprim))
-    ⊠ (cv ⊠ cv ⊞ num 1 1 ⊟ num 2 1 ⊠ cv ⊠ cosine (ground .psiv ⊟ num 2 1 ⊠ bprim)))
+    ⊠ imagePower (ground .cv) (ground .psiv ⊟ num 2 1 ⊠ bprim))
     ⊘ row .ra

@@ -40,7 +40,8 @@ use denote.Triple.Table.{entered, cited}
 use denote.Triple.Walked.{says, Stays, stay-ref, stay-none, walkOf, AllGo, goes-none, goes-ref, Walks, ends-at, walked, walk-meets}
 use denote.Exit.{yes}
 use denote.Enum.Laws as EL
-use Rattle.ioncap.specs.Gain.{gainOf, heightLeft}
+use Rattle.ioncap.specs.Gain.{gainOf, gainNumber, gainValue, efficiencyValue, heightLeft}
+use Rattle.ioncap.specs.Gain.{callNumber, callGain, callEfficiency, callHeight}
 use Rattle.ioncap.specs.declared.gain.GainCall.{GainCall}
 use Rattle.ioncap.specs.declared.gain.Gain.{Gain}
 use Rattle.ioncap.proofs.gain.GainCall as K
@@ -69,6 +70,12 @@ Arg = RefT IoncapState × (GainCall × Unit {0})
 abbrev stayed : Stays (f.ended .signature .params) (f.ended .kept)
 stayed = (stay-ref (0 ∷ []) tt (plain (λ _. T.the-row)), (stay-none (λ _. K.the-row) yes, tt))
 
+-- what `gain_of` promises
+abbrev Answered : GainCall → Float → Gain → Type 0
+Answered k m r =
+    (r ≡ gainOf k m) × (gainNumber r ≡ callNumber k m) × (gainValue r ≡ callGain k m) × (efficiencyValue r ≡ callEfficiency k m)
+    × (heightLeft r m ≡ callHeight k m)
+
 -- the one value of a list
 only : List Val → Val
 only [] = vunit
@@ -82,8 +89,8 @@ module _ {M : Type 1} (𝓤 : URA M) (H : Heap 𝓤) (A : Atoms 𝓤) (at-mem : 
   abbrev Left : Contract 𝓤
   Left = tripleOf 𝓤 H A left.signature (left.spec 𝓤 H A at-mem run)
 
-  answered-of : (k : GainCall) (m : Float) (r : Gain) → ent 𝓤 (ensured 𝓤 H A gain-of.ended (gain-of.clauses 𝓤 H A at-mem run) tt (k, (m, tt)) tt r) (fact 𝓤 (r ≡ gainOf k m))
-  answered-of k m r = exE 𝓤 _ (λ ws. snd∗ 𝓤 (sem 𝓤 H A (lasts gain-of.ended tt (k, (m, tt)) ws)) (fact 𝓤 (r ≡ gainOf k m)))
+  answered-of : (k : GainCall) (m : Float) (r : Gain) → ent 𝓤 (ensured 𝓤 H A gain-of.ended (gain-of.clauses 𝓤 H A at-mem run) tt (k, (m, tt)) tt r) (fact 𝓤 (Answered k m r))
+  answered-of k m r = exE 𝓤 _ (λ ws. snd∗ 𝓤 (sem 𝓤 H A (lasts gain-of.ended tt (k, (m, tt)) ws)) (fact 𝓤 (Answered k m r)))
 
   left-of : (g : Gain) (m r : Float) → ent 𝓤 (ensured 𝓤 H A left.ended (left.clauses 𝓤 H A at-mem run) tt (g, (m, tt)) tt r) (fact 𝓤 (r ≡ heightLeft g m))
   left-of g m r = exE 𝓤 _ (λ ws. snd∗ 𝓤 (sem 𝓤 H A (lasts left.ended tt (g, (m, tt)) ws)) (fact 𝓤 (r ≡ heightLeft g m)))
@@ -115,12 +122,12 @@ module _ {M : Type 1} (𝓤 : URA M) (H : Heap 𝓤) (A : Atoms 𝓤) (W : Given
   abbrev Post : Val → SProp 𝓤
   Post = walkOf 𝓤 H A f.ended stayed (f.clauses 𝓤 H A at-mem run) .post (((κ, tt), (q, tt), tt, x, at), tt)
 
-  exits : (g : Gain) (u : Val) → Is G.the-row g (u ∷ []) → (r : Float) → Is K.the-row k (kv ∷ []) → g ≡ gainOf k m → r ≡ heightLeft g m
+  exits : (g : Gain) (u : Val) → Is G.the-row g (u ∷ []) → (r : Float) → Is K.the-row k (kv ∷ []) → Answered k m g → r ≡ heightLeft g m
       → ent 𝓤 (sep 𝓤 (A .obs γ (T.the-row .coded .code (h′ r))) (sep 𝓤 (A .bor κ (Body (mem T.the-row) b o γ)) (A .lft κ q))) (Post u)
   exits g u is r gk e e′ =
       qed W (‵ (fobs γ (T.the-row .coded .code (h′ r))) ∷ ‵ (fbor κ (Body (mem T.the-row) b o γ)) ∷ ‵ (flft κ q) ∷ []) ∵
       suffices ! _ (ends-at 𝓤 H A f.ended stayed (f.clauses 𝓤 H A at-mem run) W (((κ, tt), (q, tt), tt, x, at), tt) u g (h′ r, (tt, tt)) (tt, (tt, tt))) $
-      says ! (e, subst (λ (y : Gain). r ≡ heightLeft y m) e e′) $ nothing ! $ move ! (3 ∷ 0 ∷ []) $ join ! $
+      says ! (e .0, e .1, e .2, e .3, subst (λ (y : Gain). r ≡ heightLeft y m) (e .0) e′) $ nothing ! $ move ! (3 ∷ 0 ∷ []) $ join ! $
       frame ! $ feqI ! (List Val) (vptr b o ∷ []) (vptr b o ∷ []) refl $ fjoin3 ! $ nothing ! $ owned ! K.the-row (Is K.the-row) ((LL.makes K.the-type K′.the-plain) 𝓤 H A) k _ gk $ fjoin ! $ move ! (1 ∷ 0 ∷ []) $ fjoin ! $
       owned ! G.the-row (Is G.the-row) ((EL.makes G.the-type G′.the-plain) 𝓤 H A) g _ is $ move ! (1 ∷ 0 ∷ []) $ done !
 
@@ -163,7 +170,7 @@ module _ {M : Type 1} (𝓤 : URA M) (H : Heap 𝓤) (A : Atoms 𝓤) (W : Given
         calls-at ! fm (Ans 𝓤 H A at-mem run) known to-answer
         (and-then ! (load ! (from ! (stop !)) (look ! 12 refl)) (and-then ! (load ! (from ! (stop !)) (look ! 10 refl)) (no-more !))) (λ u.
         use1 W (later (some (λ (g : Gain). (‵ ftrue ⊛ ‵ (G.the-row .own g (u ∷ []))) ⊛ raw (ensured 𝓤 H A gain-of.ended (gain-of.clauses 𝓤 H A at-mem run) tt (k, (m, tt)) tt g)))) (id⊢ 𝓤 _) $ await ! tt $ pick ! (λ g.
-        split ! $ move ! (1 ∷ []) $ use1 W (raw (fact 𝓤 (g ≡ gainOf k m))) (answered-of 𝓤 H A at-mem run k m g) $ heard ! (g ≡ gainOf k m) (λ e. split ! $ drop ! $
+        split ! $ move ! (1 ∷ []) $ use1 W (raw (fact 𝓤 (Answered k m g))) (answered-of 𝓤 H A at-mem run k m g) $ heard ! (Answered k m g) (λ e. split ! $ drop ! $
         peeks ! G.the-row (Is G.the-row) (shows 𝓤 H A G.the-row) g (u ∷ []) (λ isg. drop ! $
         land ! (from ! (stop !)) (init ! 7 refl (EL.lawful G.the-type G′.the-laws 𝓤 H A W tt .typed g _ isg .0)) $
         -- the second call

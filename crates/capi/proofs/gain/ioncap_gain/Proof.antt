@@ -41,7 +41,7 @@ unfolding round ofBits
 returns-2 c =
     let a = c .before .before .before .before .before .before .before .before .before .before .before .args in
     let call = callOf (a .kop) (a .toaz) (a .asig) (a .aeps) (a .and) (a .anl) (a .anh) (a .aex1) (a .aex2) (a .aex3) (a .aex4) (a .delta) (a .fmc) (a .model) in
-    let made : c .before .before .before .before .before .before .before .gain-of .result ≡ gainOf call (a .height) = handed _ _ _ _ _ _ _ _ _ _ _ (toZ-ofZ w32 (a .kop) (search needs)) (toZ-ofZ w32 (a .model) (search needs)) (c .before .before .before .before .before .before .before .before .model-of .ensures) (c .before .before .before .before .before .before .before .gain-of .ensures) in
+    let made : c .before .before .before .before .before .before .before .gain-of .result ≡ gainOf call (a .height) = handed _ _ _ _ _ _ _ _ _ _ _ (toZ-ofZ w32 (a .kop) (search needs)) (toZ-ofZ w32 (a .model) (search needs)) (c .before .before .before .before .before .before .before .before .model-of .ensures) (c .before .before .before .before .before .before .before .gain-of .ensures .0) in
     gain-accepted call (a .height) (a .answer .now) (c .before .before .before .before .before .before .before .before .before .if1 .left) _ made _ _ (c .before .before .before .before .before .v .given .1) (c .before .before .write-answer .ensures)
 
 same-length-2 : tie.Need-same-length-2
@@ -52,7 +52,7 @@ unfolding round ofBits
 returns-3 c =
     let a = c .before .before .before .before .before .before .before .before .before .before .before .args in
     let call = callOf (a .kop) (a .toaz) (a .asig) (a .aeps) (a .and) (a .anl) (a .anh) (a .aex1) (a .aex2) (a .aex3) (a .aex4) (a .delta) (a .fmc) (a .model) in
-    let made : c .before .before .before .before .before .before .before .gain-of .result ≡ gainOf call (a .height) = handed _ _ _ _ _ _ _ _ _ _ _ (toZ-ofZ w32 (a .kop) (search needs)) (toZ-ofZ w32 (a .model) (search needs)) (c .before .before .before .before .before .before .before .before .model-of .ensures) (c .before .before .before .before .before .before .before .gain-of .ensures) in
+    let made : c .before .before .before .before .before .before .before .gain-of .result ≡ gainOf call (a .height) = handed _ _ _ _ _ _ _ _ _ _ _ (toZ-ofZ w32 (a .kop) (search needs)) (toZ-ofZ w32 (a .model) (search needs)) (c .before .before .before .before .before .before .before .before .model-of .ensures) (c .before .before .before .before .before .before .before .gain-of .ensures .0) in
     gain-refused call (a .height) (a .answer .now) (c .before .before .before .before .before .before .before .before .before .if1 .left) _ made _ _ (c .before .before .before .before .before .number .given .1) (c .before .before .write-answer2 .ensures)
 
 pub ioncap-gain-spec : {M : Type 1} → statement M

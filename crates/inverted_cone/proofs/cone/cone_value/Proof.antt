@@ -1,7 +1,7 @@
 use mathlib.Core.Path.{_≡_}
 use Prim.Native.Nat.{ℕ, _-_}
 use lib.ListN.{getD}
-use lib.Ieee.{Float, nan, neg, round, ofBits}
+use lib.Ieee.{Float, nan, neg, round, ofBits, ofInt}
 use Rattle.inverted_cone.specs.InvertedCone.{coneFreqs, coneElevs, cone, upperOf, interpOf, weightOf, coneAt, coneValue}
 use borrow.Author.Needs.{needs}
 use Rattle.inverted_cone.proofs.cone.cone_value.Statement.{statement}
@@ -133,7 +133,7 @@ interp-requires-3 : tie.Need-interp-requires-3
 interp-requires-3 c κs = search needs
 
 returns : tie.Need-returns
-unfolding coneFreqs coneElevs cone coneAt round ofBits neg
+unfolding coneFreqs coneElevs cone coneAt round ofBits ofInt neg
 returns c =
     value _ _ _ _ _ _ _ _ _ (c .before .before .before .before .before .before .before .before .before .before .before .upper .ensures .0) (c .before .before .before .before .before .before .before .before .before .upper2 .ensures .0) (c .before .before .before .before .before .before .before .before .weight .ensures) (c .before .before .before .before .before .before .before .weight2 .ensures) (c .before .before .before .before .interp .ensures) (c .before .interp2 .ensures) (c .interp3 .ensures)
 

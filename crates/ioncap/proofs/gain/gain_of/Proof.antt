@@ -7,6 +7,7 @@ use Rattle.patterns.specs.Antenna.{antennaOf}
 use Rattle.ioncap.specs.Gain.{callWork}
 use Rattle.ioncap.specs.Gain.{gainOf}
 use borrow.Author.Needs.{needs}
+use Rattle.ioncap.proofs.Answers.{answers}
 use Rattle.ioncap.proofs.gain.gain_of.Statement.{statement}
 use Rattle.ioncap.proofs.gain.gain_of.Tie as tie
 
@@ -15,7 +16,7 @@ call-refusal-requires c κs = search needs
 
 returns : tie.Need-returns
 unfolding gainOf
-returns c = rw (← c .before .call-refusal .ensures, ne-eqb _ 0 (c .if1 .taken))
+returns c = answers (c .before .before .args .call) (c .before .before .args .height) _ (rw (← c .before .call-refusal .ensures, ne-eqb _ 0 (c .if1 .taken)))
 
 antenna-of-requires : tie.Need-antenna-of-requires
 antenna-of-requires c κs = search needs
@@ -39,13 +40,13 @@ returns-2 : tie.Need-returns-2
 unfolding gainOf callWork
 returns-2 c = let call = c .before .before .before .before .before .before .before .before .before .before .args .call in
     let antenna : c .before .before .before .before .before .antenna-of .result ≡ antennaOf (call .kop) (call .toaz) (call .params) (call .model) = (c .before .before .before .before .before .antenna-of .ensures) ∙ ap (λ (k : ℤ). antennaOf k (call .toaz) (call .params) (call .model)) (toZ-ofZ w32 (call .kop) (search needs)) in
-    rw (← c .before .before .before .before .before .before .before .before .before .call-refusal .ensures, c .before .before .before .before .before .before .before .before .if1 .left, ← antenna, ← c .before .before .before .before .sin-cos .ensures .0, ← c .before .before .before .before .sin-cos .ensures .1, ← c .before .before .before .elevation-of .ensures, ← c .before .before .work .ensures, c .enum-told .given .1)
+    answers call (c .before .before .before .before .before .before .before .before .before .before .args .height) _ (rw (← c .before .before .before .before .before .before .before .before .before .call-refusal .ensures, c .before .before .before .before .before .before .before .before .if1 .left, ← antenna, ← c .before .before .before .before .sin-cos .ensures .0, ← c .before .before .before .before .sin-cos .ensures .1, ← c .before .before .before .elevation-of .ensures, ← c .before .before .work .ensures, c .enum-told .given .1))
 
 returns-3 : tie.Need-returns-3
 unfolding gainOf callWork
 returns-3 c = let call = c .before .before .before .before .before .before .before .before .before .before .before .args .call in
     let antenna : c .before .before .before .before .before .before .antenna-of .result ≡ antennaOf (call .kop) (call .toaz) (call .params) (call .model) = (c .before .before .before .before .before .before .antenna-of .ensures) ∙ ap (λ (k : ℤ). antennaOf k (call .toaz) (call .params) (call .model)) (toZ-ofZ w32 (call .kop) (search needs)) in
-    rw (← c .before .before .before .before .before .before .before .before .before .before .call-refusal .ensures, c .before .before .before .before .before .before .before .before .before .if1 .left, ← antenna, ← c .before .before .before .before .before .sin-cos .ensures .0, ← c .before .before .before .before .before .sin-cos .ensures .1, ← c .before .before .before .before .elevation-of .ensures, ← c .before .before .before .work .ensures, c .before .call .given .1)
+    answers call (c .before .before .before .before .before .before .before .before .before .before .before .args .height) _ (rw (← c .before .before .before .before .before .before .before .before .before .before .call-refusal .ensures, c .before .before .before .before .before .before .before .before .before .if1 .left, ← antenna, ← c .before .before .before .before .before .sin-cos .ensures .0, ← c .before .before .before .before .before .sin-cos .ensures .1, ← c .before .before .before .before .elevation-of .ensures, ← c .before .before .before .work .ensures, c .before .call .given .1))
 
 pub gain-of-spec : {M : Type 1} → statement M
 gain-of-spec =

@@ -1,5 +1,5 @@
 use lib.Ieee.{round, ofBits}
-use Rattle.trigonometric.specs.Turns.{argument}
+use Rattle.trigonometric.specs.Trigonometric.{argument}
 use Rattle.trigonometric.proofs.trigonometric.turns_argument.Statement.{statement}
 use Rattle.trigonometric.proofs.trigonometric.turns_argument.Tie as tie
 
