@@ -3,16 +3,18 @@
 ghost use Prim.Native.Nat.{_+_, _≤_};
 ghost use lib.ListN.{length};
 ghost use Rattle.gainlist.specs.Buffers.{Buffers};
+use libc::STDERR_FILENO;
 use libc::STDIN_FILENO;
 use libc::STDOUT_FILENO;
 use listing::ROOM;
 use listing::Session;
 
-// Text not written yet ends at `at`. A failed write, or the end of the input, ends the run.
+// Text not written yet ends at `at`. The run ends with the input, or where a read or write failed.
 struct State {
     session: Session,
     at: usize,
     going: bool,
+    failed: bool,
 }
 
 fn flush(state: State, out: &[u8]) -> State
@@ -20,11 +22,12 @@ fn flush(state: State, out: &[u8]) -> State
     ensures { λ r. ⌜ r .at ≤ 0 ⌝ }
 {
     let State { session, at, .. } = state;
-    let going = io::write_all(STDOUT_FILENO, &out[..at]);
+    let written = io::write_all(STDOUT_FILENO, &out[..at]);
     State {
         session,
         at: 0,
-        going,
+        going: written,
+        failed: !written,
     }
 }
 
@@ -53,7 +56,12 @@ fn list_piece(
     let mut s = state;
     let mut used: usize = 0;
     while used < piece.len() {
-        let State { session, at, going } = s;
+        let State {
+            session,
+            at,
+            going,
+            ..
+        } = s;
         if !going {
             return s;
         }
@@ -63,6 +71,7 @@ fn list_piece(
             session: next,
             at: r.at,
             going: true,
+            failed: false,
         };
         s = flush_full(stepped, out);
         used = used + r.used;
@@ -82,6 +91,7 @@ fn turn(state: State, line: &mut [u8], input: &mut [u8], table: &mut [f32], out:
             session,
             at,
             going: false,
+            failed: got < 0,
         };
     }
     let n = io::count(got, input);
@@ -92,6 +102,10 @@ fn turn(state: State, line: &mut [u8], input: &mut [u8], table: &mut [f32], out:
     listed
 }
 
+fn report_failure() {
+    io::write_all(STDERR_FILENO, b"gainlist: a read or write failed\n");
+}
+
 fn run(line: &mut [u8], input: &mut [u8], table: &mut [f32], out: &mut [u8])
     requires { ⌜ Buffers (now line) (now table) (now out) 0 ⌝ }
 {
@@ -99,6 +113,7 @@ fn run(line: &mut [u8], input: &mut [u8], table: &mut [f32], out: &mut [u8])
         session: listing::start(),
         at: 0,
         going: true,
+        failed: false,
     };
     let mut turns = u64::MAX;
     let mut going = true;
@@ -107,7 +122,17 @@ fn run(line: &mut [u8], input: &mut [u8], table: &mut [f32], out: &mut [u8])
         going = state.going;
         turns -= 1;
     }
-    let State { session, at, .. } = state;
+    let State {
+        session,
+        at,
+        failed,
+        ..
+    } = state;
+    // The counts of a part would look like those of the whole.
+    if failed {
+        report_failure();
+        return;
+    }
     let end = listing::finish(session, line, table, out, at);
     io::write_all(STDOUT_FILENO, &out[..end]);
 }

@@ -8,6 +8,7 @@ use Rattle.gainlist.proofs.run.Statement.{statement}
 use Rattle.gainlist.proofs.run.Tie as tie
 use Rattle.gainlist.proofs.run.Reads as reads
 use Rattle.gainlist.proofs.run.Lts as lts
+use Rattle.gainlist.proofs.report_failure.Reads as report-failure-reads
 use Rattle.gainlist.proofs.turn.Reads as turn-reads
 use Rattle.io.proofs.write_all.Reads as write-all-reads
 use Rattle.listing.proofs.finish.Reads as finish-reads
@@ -19,65 +20,89 @@ Inv-loop line₀ input₀ table₀ out₀ state₀ turns₀ going₀ line input 
 abbrev μ-loop : tie.MeasureT-loop
 μ-loop line₀ input₀ table₀ out₀ state₀ turns₀ going₀ line input table out state turns going = turns
 
--- src/main.rt:99:18
+-- src/main.rt:113:18
 start-requires : tie.Need-start-requires Inv-loop μ-loop
 start-requires c κs = search needs
 
--- src/main.rt:105:5
+-- src/main.rt:120:5
 loop-holds : tie.Need-loop-holds Inv-loop μ-loop
 loop-holds c = record { kept = c .before .before .before .before .before .pre; line-same = refl; table-same = refl; out-same = refl; input-same = refl }
 
--- src/main.rt:106:9
+-- src/main.rt:121:9
 turn-requires : tie.Need-turn-requires Inv-loop μ-loop
 turn-requires c κs = c .before .before .before .before .before .before .loop .inv .kept
 
--- src/main.rt:108:9
+-- src/main.rt:123:9
 sub-turns : tie.Need-sub-turns Inv-loop μ-loop
 sub-turns c = search needs
 
--- src/main.rt:105:5
+-- src/main.rt:120:5
 loop-less : tie.Need-loop-less Inv-loop μ-loop
 loop-less c = search needs
 
--- src/main.rt:105:5
+-- src/main.rt:120:5
 loop-again : tie.Need-loop-again Inv-loop μ-loop
 loop-again c = let i = c .before .before .before .before .before .before .before .before .before .before .before .before .before .before .before .loop .inv in let l : length (c .before .before .before .before .before .before .before .before .turn .last .1 .0) ≡ length (c .before .before .before .before .before .before .before .before .before .before .before .before .before .before .before .loop .line) = search needs in let n : length (c .before .before .before .before .before .before .before .before .turn .last .1 .1 .0) ≡ length (c .before .before .before .before .before .before .before .before .before .before .before .before .before .before .before .loop .input) = search needs in let t : length (c .before .before .before .before .before .before .before .before .turn .last .1 .1 .1 .0) ≡ length (c .before .before .before .before .before .before .before .before .before .before .before .before .before .before .before .loop .table) = search needs in let o : length (c .before .before .before .before .before .before .before .before .turn .last .1 .1 .1 .1 .0) ≡ length (c .before .before .before .before .before .before .before .before .before .before .before .before .before .before .before .loop .out) = search needs in record { kept = record { line-length = l ∙ i .kept .line-length; table-length = t ∙ i .kept .table-length; room = omega (arith, c .before .before .before .before .before .before .before .before .turn .ensures, o) }; line-same = l ∙ i .line-same; table-same = t ∙ i .table-same; out-same = o ∙ i .out-same; input-same = n ∙ i .input-same }
 
--- src/main.rt:111:9
+-- src/main.rt:133:9
+report-failure-requires : tie.Need-report-failure-requires Inv-loop μ-loop
+report-failure-requires c κs = search needs
+
+-- src/main.rt:134:9
+same-length : tie.Need-same-length Inv-loop μ-loop
+same-length c = c .before .before .before .before .loop .inv .line-same
+
+-- src/main.rt:134:9
+same-length-2 : tie.Need-same-length-2 Inv-loop μ-loop
+same-length-2 c = c .before .before .before .before .loop .inv .input-same
+
+-- src/main.rt:134:9
+same-length-3 : tie.Need-same-length-3 Inv-loop μ-loop
+same-length-3 c = c .before .before .before .before .loop .inv .table-same
+
+-- src/main.rt:134:9
+same-length-4 : tie.Need-same-length-4 Inv-loop μ-loop
+same-length-4 c = c .before .before .before .before .loop .inv .out-same
+
+-- src/main.rt:134:9
+returns : tie.Need-returns Inv-loop μ-loop
+returns c = search needs
+
+-- src/main.rt:136:9
 finish-requires : tie.Need-finish-requires Inv-loop μ-loop
 finish-requires c κs = search needs
 
--- src/main.rt:112:34
+-- src/main.rt:137:34
 slice-reshare-prefix-write-all : tie.Need-slice-reshare-prefix-write-all Inv-loop μ-loop
-slice-reshare-prefix-write-all c = let o : length (c .before .before .before .before .finish .last .1 .1 .1 .0) ≡ length (c .before .before .before .before .before .before .before .before .before .before .loop .out) = search needs in omega (arith, c .before .before .before .before .finish .ensures .fits (omega (arith, c .before .before .before .before .before .before .before .before .before .before .loop .inv .kept .room)), o)
+slice-reshare-prefix-write-all c = let o : length (c .before .before .before .before .finish .last .1 .1 .1 .0) ≡ length (c .before .before .before .before .before .before .before .before .before .before .before .loop .out) = search needs in omega (arith, c .before .before .before .before .finish .ensures .fits (omega (arith, c .before .before .before .before .before .before .before .before .before .before .before .loop .inv .kept .room)), o)
 
--- src/main.rt:112:34
+-- src/main.rt:137:34
 slice-aggregate-write-all : tie.Need-slice-aggregate-write-all Inv-loop μ-loop
-slice-aggregate-write-all c = let o : length (c .before .before .before .before .before .finish .last .1 .1 .1 .0) ≡ length (c .before .before .before .before .before .before .before .before .before .before .before .loop .out) = search needs in sym (length-take-le _ _ (omega (arith, c .before .before .before .before .before .finish .ensures .fits (omega (arith, c .before .before .before .before .before .before .before .before .before .before .before .loop .inv .kept .room)), o)))
+slice-aggregate-write-all c = let o : length (c .before .before .before .before .before .finish .last .1 .1 .1 .0) ≡ length (c .before .before .before .before .before .before .before .before .before .before .before .before .loop .out) = search needs in sym (length-take-le _ _ (omega (arith, c .before .before .before .before .before .finish .ensures .fits (omega (arith, c .before .before .before .before .before .before .before .before .before .before .before .before .loop .inv .kept .room)), o)))
 
--- src/main.rt:112:5
+-- src/main.rt:137:5
 write-all-requires : tie.Need-write-all-requires Inv-loop μ-loop
 write-all-requires c κs = search needs
 
--- src/main.rt:95:1
-same-length : tie.Need-same-length Inv-loop μ-loop
-same-length c = c .before .before .before .before .before .before .before .before .before .before .before .before .loop .inv .line-same
+-- src/main.rt:109:1
+same-length-5 : tie.Need-same-length-5 Inv-loop μ-loop
+same-length-5 c = c .before .before .before .before .before .before .before .before .before .before .before .before .before .loop .inv .line-same
 
--- src/main.rt:95:1
-same-length-2 : tie.Need-same-length-2 Inv-loop μ-loop
-same-length-2 c = c .before .before .before .before .before .before .before .before .before .before .before .before .loop .inv .input-same
+-- src/main.rt:109:1
+same-length-6 : tie.Need-same-length-6 Inv-loop μ-loop
+same-length-6 c = c .before .before .before .before .before .before .before .before .before .before .before .before .before .loop .inv .input-same
 
--- src/main.rt:95:1
-same-length-3 : tie.Need-same-length-3 Inv-loop μ-loop
-same-length-3 c = let t : length (c .before .before .before .before .before .before .finish .last .1 .1 .0) ≡ length (c .before .before .before .before .before .before .before .before .before .before .before .before .loop .table) = search needs in t ∙ c .before .before .before .before .before .before .before .before .before .before .before .before .loop .inv .table-same
+-- src/main.rt:109:1
+same-length-7 : tie.Need-same-length-7 Inv-loop μ-loop
+same-length-7 c = let t : length (c .before .before .before .before .before .before .finish .last .1 .1 .0) ≡ length (c .before .before .before .before .before .before .before .before .before .before .before .before .before .loop .table) = search needs in t ∙ c .before .before .before .before .before .before .before .before .before .before .before .before .before .loop .inv .table-same
 
--- src/main.rt:95:1
-same-length-4 : tie.Need-same-length-4 Inv-loop μ-loop
-same-length-4 c = let o : length (c .before .before .before .before .before .before .finish .last .1 .1 .1 .0) ≡ length (c .before .before .before .before .before .before .before .before .before .before .before .before .loop .out) = search needs in o ∙ c .before .before .before .before .before .before .before .before .before .before .before .before .loop .inv .out-same
+-- src/main.rt:109:1
+same-length-8 : tie.Need-same-length-8 Inv-loop μ-loop
+same-length-8 c = let o : length (c .before .before .before .before .before .before .finish .last .1 .1 .1 .0) ≡ length (c .before .before .before .before .before .before .before .before .before .before .before .before .before .loop .out) = search needs in o ∙ c .before .before .before .before .before .before .before .before .before .before .before .before .before .loop .inv .out-same
 
--- src/main.rt:95:1
-returns : tie.Need-returns Inv-loop μ-loop
-returns c = search needs
+-- src/main.rt:109:1
+returns-2 : tie.Need-returns-2 Inv-loop μ-loop
+returns-2 c = search needs
 
 pub run-spec : {M : Type 1} → statement M
 run-spec =
@@ -91,12 +116,18 @@ run-spec =
     sub-turns
     loop-less
     loop-again
-    finish-requires
-    slice-reshare-prefix-write-all
-    slice-aggregate-write-all
-    write-all-requires
+    report-failure-requires
     same-length
     same-length-2
     same-length-3
     same-length-4
-    returns)
+    returns
+    finish-requires
+    slice-reshare-prefix-write-all
+    slice-aggregate-write-all
+    write-all-requires
+    same-length-5
+    same-length-6
+    same-length-7
+    same-length-8
+    returns-2)
