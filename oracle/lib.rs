@@ -1,8 +1,12 @@
 //! The oracle: the upstream antenna models built over document 01's
 //! elementary functions. See `oracle/README.md`.
 
+pub mod deck;
 pub mod elementary;
+pub mod fields;
 pub mod gain_calls;
+pub mod gainlist;
+pub mod gainlist_decks;
 pub mod lists_antenna;
 pub mod lists_curtain;
 pub mod lists_deck;

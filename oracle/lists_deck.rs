@@ -1,34 +1,20 @@
-//! The list `deck`: entries run in turn on one deck. The refusals are judged
-//! here, an accepted card's cells are the derived upstream `ioninit` and
-//! `iongain`, called in document 01 section 8's order.
+//! The list `deck`: entries run in turn on one deck. README.md gives the form
+//! of a line.
 
+use crate::deck::{row, run, Card, Deck, COLUMNS, TABLE_LENGTH};
 use crate::elementary::bits;
-use crate::gain_calls::{input_refusal, one_of, outside, DEGREE};
-use crate::ioncap::{iongain, ioninit, IoncapState};
+use crate::gain_calls::one_of;
 use crate::lists_parameters::models;
 use crate::splitmix::SplitMix64;
 use std::io::{self, Write};
 
 const SEED: u64 = 0x1983_0115;
 
-const COLUMNS: usize = 91;
-const TABLE_LENGTH: usize = 2_760;
 /// Numbers on a line: a row and its efficiency.
 const NUMBERS: usize = COLUMNS + 1;
 
 /// Random cards of each type.
 const RANDOM_CARDS: usize = 3;
-
-/// The model is its number in the list `parameters`.
-#[derive(Clone, Copy)]
-struct Card {
-    kop: i32,
-    first: i32,
-    last: i32,
-    model: usize,
-    toaz: f32,
-    slots: [f32; 20],
-}
 
 /// A card, or a malformed line, and the length of the table it brings.
 #[derive(Clone, Copy)]
@@ -37,85 +23,24 @@ struct Entry {
     length: usize,
 }
 
-/// Upstream's state is the carried height.
-#[derive(Default)]
-struct Deck {
-    state: IoncapState,
-    accepted: u32,
-    refused: u32,
-}
-
 pub fn write(out: &mut impl Write) -> io::Result<()> {
     let mut deck = Deck::default();
     for entry in entries() {
-        run(out, &mut deck, &entry)?;
+        write_entry(out, &mut deck, &entry)?;
     }
     out.flush()
 }
 
-fn run(out: &mut impl Write, deck: &mut Deck, entry: &Entry) -> io::Result<()> {
-    let verdict = refusal(deck, entry);
-    let mut rows = Vec::new();
-    if let (0, Some(card)) = (verdict, &entry.card) {
-        rows = filled(&mut deck.state, card);
-        deck.accepted += 1;
-    } else if verdict != 10 {
-        deck.refused += 1;
-    }
+fn write_entry(out: &mut impl Write, deck: &mut Deck, entry: &Entry) -> io::Result<()> {
+    let mut table = vec![0.0; entry.length];
+    let verdict = run(deck, entry.card.as_ref(), &mut table);
     writeln!(out, "{}", entry_line(deck, entry, verdict))?;
-    for row in rows {
-        writeln!(out, "{}", line('r', &row.map(bits)))?;
+    if let (0, Some(card)) = (verdict, &entry.card) {
+        for mhz in card.first..=card.last {
+            writeln!(out, "{}", row_line(&table, mhz))?;
+        }
     }
     Ok(())
-}
-
-/// The rows of an accepted card, by rising MHz, each with its efficiency: the
-/// one of the 90-degree call, the row's last.
-fn filled(state: &mut IoncapState, card: &Card) -> Vec<[f32; NUMBERS]> {
-    let p = ioninit(card.kop, &card.slots);
-    let model = models()[card.model];
-    let mut rows = Vec::new();
-    for mhz in card.first..=card.last {
-        let mut row = [0.0; NUMBERS];
-        for degrees in 0..COLUMNS {
-            let delta = degrees as f32 * DEGREE;
-            let fmc = mhz as f32;
-            let (gain, efficiency) = iongain(state, card.kop, card.toaz, &p, delta, fmc, model);
-            row[degrees] = gain;
-            row[COLUMNS] = efficiency;
-        }
-        rows.push(row);
-    }
-    rows
-}
-
-/// Document 01's refusals of an entry in their order: 10, 9, 7, 8, then 1 to 5.
-fn refusal(deck: &Deck, entry: &Entry) -> u32 {
-    if deck.accepted + deck.refused >= 1_000_000 {
-        10
-    } else if !deck.state.x.is_finite() {
-        9
-    } else if entry.length != TABLE_LENGTH {
-        7
-    } else {
-        entry.card.map_or(8, |card| card_refusal(&card))
-    }
-}
-
-fn card_refusal(card: &Card) -> u32 {
-    let Card {
-        kop,
-        first,
-        last,
-        toaz,
-        slots,
-        ..
-    } = *card;
-    let p = ioninit(kop, &slots);
-    let whole = |n: i32| n.unsigned_abs() > 1_000;
-    let any = outside(&toaz) || slots.iter().any(outside) || whole(first) || whole(last);
-    let mhz_outside = first < 1 || last > 30 || first > last;
-    input_refusal(kop, any, p.asig, mhz_outside, p.and)
 }
 
 /// `c` and the card, or `m`; then the table's length, the verdict and the deck
@@ -134,6 +59,16 @@ fn entry_line(deck: &Deck, entry: &Entry, verdict: u32) -> String {
     words[28] = deck.accepted;
     words[29] = deck.refused;
     line(if entry.card.is_some() { 'c' } else { 'm' }, &words)
+}
+
+/// `r`, the row's gains and its efficiency.
+fn row_line(table: &[f32], mhz: i32) -> String {
+    let (gains, efficiency) = row(table, mhz);
+    let mut words = [bits(efficiency); NUMBERS];
+    for (word, gain) in words.iter_mut().zip(gains) {
+        *word = bits(*gain);
+    }
+    line('r', &words)
 }
 
 fn line(kind: char, words: &[u32; NUMBERS]) -> String {

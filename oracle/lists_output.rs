@@ -1,6 +1,9 @@
 //! The list `output`: fields of a line, written and read. README.md gives the
 //! form of a line.
 
+use crate::fields::{
+    decimal_text, hundredths, hundredths_text, read_decimal, read_integer, Hundredths, LIMIT,
+};
 use crate::output::i;
 use crate::splitmix::SplitMix64;
 use std::collections::HashSet;
@@ -10,9 +13,6 @@ const SEED: u64 = 0x1983_0115;
 
 /// The text's columns in a line, and the widest field.
 const COLUMNS: usize = 24;
-
-/// From here on, 2^56, the hundredths of an f32 are not given.
-const LIMIT: f64 = 72_057_594_037_927_936.0;
 
 pub fn write(out: &mut impl Write) -> io::Result<()> {
     let mut seen = HashSet::new();
@@ -81,42 +81,6 @@ fn some_integer(random: &mut SplitMix64) -> i64 {
 
 // ---- hundredths
 
-enum Hundredths {
-    NotANumber,
-    Over,
-    Whole(i64),
-}
-
-/// From the exact value, in whole numbers.
-fn hundredths(x: f32) -> Hundredths {
-    if x.is_nan() {
-        return Hundredths::NotANumber;
-    }
-    if f64::from(x).abs() >= LIMIT {
-        return Hundredths::Over;
-    }
-    let bits = x.to_bits() & 0x7fff_ffff;
-    let exponent = (bits >> 23) as i32;
-    let fraction = bits & 0x7f_ffff;
-    // |x| is digits * 2^power.
-    let (digits, power) = match exponent {
-        0 => (fraction, -149),
-        _ => (fraction | 0x80_0000, exponent - 150),
-    };
-    let product = 100 * u128::from(digits);
-    let size = if power >= 0 {
-        product << power
-    } else if power < -64 {
-        0
-    } else {
-        let whole = product >> -power;
-        let twice_rest = (product - (whole << -power)) * 2;
-        whole + u128::from(twice_rest >= 1 << -power)
-    };
-    let size = i64::try_from(size).expect("below the limit the hundredths fit");
-    Hundredths::Whole(if x.is_sign_negative() { -size } else { size })
-}
-
 fn hundredths_line(x: f32) -> String {
     let (head, n) = match hundredths(x) {
         Hundredths::NotANumber => ("hn", 0),
@@ -124,14 +88,6 @@ fn hundredths_line(x: f32) -> String {
         Hundredths::Whole(n) => ("hw", n),
     };
     line(head, 0, x.to_bits(), n, "")
-}
-
-fn hundredths_text(x: f32, width: usize) -> String {
-    match hundredths(x) {
-        Hundredths::NotANumber if width >= 3 => format!("{:>width$}", "NaN"),
-        Hundredths::NotANumber | Hundredths::Over => "*".repeat(width),
-        Hundredths::Whole(n) => i(n, width),
-    }
 }
 
 fn hundredths_fields(values: &[f32]) -> Vec<String> {
@@ -224,41 +180,18 @@ fn both_signs(list: Vec<f32>) -> Vec<f32> {
 
 // ---- reading
 
-/// The sign and the rest of a number that stands after spaces.
-fn unsigned(text: &str) -> (bool, &str) {
-    let text = text.trim_start_matches(' ');
-    match text.strip_prefix('-') {
-        Some(rest) => (true, rest),
-        None => (false, text),
-    }
-}
-
-/// `least` to `most` digits and nothing else.
-fn is_digits(text: &str, least: usize, most: usize) -> bool {
-    (least..=most).contains(&text.len()) && text.bytes().all(|b| b.is_ascii_digit())
-}
-
 fn integer_line(text: &str) -> String {
-    let (negative, digits) = unsigned(text);
-    if !is_digits(digits, 1, 18) {
-        return line("nm", text.len(), 0, 0, text);
+    match read_integer(text.as_bytes()) {
+        Some(n) => line("nw", text.len(), 0, n, text),
+        None => line("nm", text.len(), 0, 0, text),
     }
-    let n: i64 = digits.parse().expect("18 digits fit");
-    line("nw", text.len(), 0, if negative { -n } else { n }, text)
 }
 
 fn decimal_line(text: &str) -> String {
-    let (_, number) = unsigned(text);
-    let good = match number.split_once('.') {
-        Some((whole, after)) => is_digits(whole, 1, 4) && is_digits(after, 4, 4),
-        None => false,
-    };
-    if !good {
-        return line("dm", text.len(), 0, 0, text);
+    match read_decimal(text.as_bytes()) {
+        Some(x) => line("dw", text.len(), x.to_bits(), 0, text),
+        None => line("dm", text.len(), 0, 0, text),
     }
-    let x: f32 = text.trim_start().parse().expect("a decimal");
-    // Minus zero is zero.
-    line("dw", text.len(), (x + 0.0).to_bits(), 0, text)
 }
 
 fn integer_texts(random: &mut SplitMix64) -> Vec<String> {
@@ -401,28 +334,19 @@ fn decimal_texts(random: &mut SplitMix64) -> Vec<String> {
         67_108_865, 99_999_998, 99_999_999,
     ];
     for n in ends {
-        list.extend([decimal(n, false, 11), decimal(n, true, 11)]);
+        list.extend([decimal_text(n, false, 11), decimal_text(n, true, 11)]);
     }
     for k in 0..360 {
         let most = [100_000_000, 10_000_000, 100_000][k % 3];
         let n = random.next_u32() % most;
         let width = if k % 6 == 0 { 6 + k % 18 } else { 11 };
-        let text = decimal(n, random.next_u64() % 2 == 0, width);
+        let text = decimal_text(n, random.next_u64() % 2 == 0, width);
         if k % 3 == 0 {
             list.push(damaged(random, text.clone()));
         }
         list.push(text);
     }
     list
-}
-
-/// A number of ten-thousandths in at least `width` columns.
-fn decimal(n: u32, negative: bool, width: usize) -> String {
-    let sign = if negative { "-" } else { "" };
-    format!(
-        "{:>width$}",
-        format!("{sign}{}.{:04}", n / 10_000, n % 10_000)
-    )
 }
 
 /// One column changed to another byte, which may leave a number.

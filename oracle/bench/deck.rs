@@ -2,8 +2,8 @@
 //! `iongain`, in one run. The forms alternate and the best of many fills
 //! counts. Built and run by `oracle/bench/run deck`.
 
-use oracle::ioncap::{ioninit, iongain, IoncapState};
-use oracle::model::Model;
+use oracle::deck::{fill, Card, COLUMNS, ROWS, TABLE_LENGTH};
+use oracle::ioncap::IoncapState;
 use std::hint::black_box;
 use std::time::Instant;
 
@@ -22,29 +22,19 @@ extern "C" {
     ) -> u32;
 }
 
-const ROWS: usize = 30;
-const COLUMNS: usize = 91;
-const LENGTH: usize = ROWS * COLUMNS + ROWS;
 const ROUNDS: usize = 400;
 
-/// Azimuth and slots.
-struct Card {
-    kop: i32,
-    toaz: f32,
-    slots: [f32; 20],
-}
-
-fn port(card: &Card, model: i32, table: &mut [f32]) {
+fn port(card: &Card, table: &mut [f32]) {
     // Sound: the slices' own pointers and lengths.
     let verdict = unsafe {
         deck_fill(
             card.kop,
-            1,
-            ROWS as i32,
+            card.first,
+            card.last,
             card.toaz,
             card.slots.as_ptr(),
             card.slots.len(),
-            model,
+            card.model as i32,
             0.0,
             table.as_mut_ptr(),
             table.len(),
@@ -53,32 +43,20 @@ fn port(card: &Card, model: i32, table: &mut [f32]) {
     assert_eq!(verdict, 0);
 }
 
-/// Cell by cell, as document 01 section 8 orders them.
 #[inline(never)]
-fn rust(card: &Card, model: Model, table: &mut [f32]) {
-    let params = ioninit(card.kop, &card.slots);
-    let mut state = IoncapState::default();
+fn rust(card: &Card, table: &mut [f32]) {
     table.fill(0.0);
-    for row in 0..ROWS {
-        for degrees in 0..COLUMNS {
-            let delta = degrees as f32 * 0.017453293;
-            let fmc = (row + 1) as f32;
-            let (gain, efficiency) =
-                iongain(&mut state, card.kop, card.toaz, &params, delta, fmc, model);
-            table[row * COLUMNS + degrees] = gain;
-            table[ROWS * COLUMNS + row] = efficiency;
-        }
-    }
+    fill(&mut IoncapState::default(), card, table);
 }
 
-fn nanoseconds(mut fill: impl FnMut()) -> f64 {
+fn nanoseconds(mut work: impl FnMut()) -> f64 {
     let start = Instant::now();
-    fill();
+    work();
     start.elapsed().as_nanos() as f64 / (ROWS * COLUMNS) as f64
 }
 
-/// Stations of each type: dielectric 4, conductivity 0.01.
-fn cards() -> Vec<Card> {
+/// Stations of each type: dielectric 4, conductivity 0.01, all rows.
+fn cards(model: usize) -> Vec<Card> {
     let card = |kop, values: &[f32]| {
         let mut slots = [0.0; 20];
         slots[2] = 4.0;
@@ -86,6 +64,9 @@ fn cards() -> Vec<Card> {
         slots[5..5 + values.len()].copy_from_slice(values);
         Card {
             kop,
+            first: 1,
+            last: ROWS as i32,
+            model,
             toaz: 12.5,
             slots,
         }
@@ -112,17 +93,14 @@ fn differ(a: &[f32], b: &[f32]) -> usize {
 fn main() {
     println!("| type | model | port ns a cell | Rust ns a cell | ratio | numbers that differ |");
     println!("|---|---|---|---|---|---|");
-    for (number, name, model) in [
-        (0, "Compatible", Model::Compatible),
-        (1, "Corrected", Model::Corrected),
-    ] {
-        for card in cards() {
-            let mut ours = vec![1.0; LENGTH];
-            let mut theirs = vec![1.0; LENGTH];
+    for (model, name) in ["Compatible", "Corrected"].into_iter().enumerate() {
+        for card in cards(model) {
+            let mut ours = vec![1.0; TABLE_LENGTH];
+            let mut theirs = vec![1.0; TABLE_LENGTH];
             let mut best = (f64::MAX, f64::MAX);
             for _ in 0..ROUNDS {
-                let a = nanoseconds(|| port(black_box(&card), number, black_box(&mut ours)));
-                let b = nanoseconds(|| rust(black_box(&card), model, black_box(&mut theirs)));
+                let a = nanoseconds(|| port(black_box(&card), black_box(&mut ours)));
+                let b = nanoseconds(|| rust(black_box(&card), black_box(&mut theirs)));
                 best = (best.0.min(a), best.1.min(b));
             }
             println!(

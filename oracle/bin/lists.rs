@@ -2,6 +2,7 @@
 //! the lists and gives the form of a line.
 
 use oracle::elementary::{bits, FUNCTIONS};
+use oracle::gainlist_decks;
 use oracle::lists_antenna;
 use oracle::lists_deck;
 use oracle::lists_gains;
@@ -28,6 +29,7 @@ fn main() {
         "elementary" => elementary(&mut BufWriter::new(io::stdout().lock())),
         "antenna" => lists_antenna::write(&mut BufWriter::new(io::stdout().lock())),
         "deck" => lists_deck::write(&mut BufWriter::new(io::stdout().lock())),
+        "gainlist" => gainlist_decks::write_list(&mut BufWriter::new(io::stdout().lock())),
         "gains" => lists_gains::write(&mut BufWriter::new(io::stdout().lock())),
         "integrals" => lists_integrals::write(&mut BufWriter::new(io::stdout().lock())),
         "output" => lists_output::write(&mut BufWriter::new(io::stdout().lock())),

@@ -7,8 +7,10 @@
 use oracle::antenna::{gain_lookup, invcon, GainTable};
 use oracle::con;
 use oracle::elementary::{bits, NAN_BITS};
-use oracle::gain_calls::{answer, Call, DEGREE};
-use oracle::ioncap::{cisi, ioninit, IoncapParams};
+use oracle::gain_calls::{answer, Call};
+use oracle::gainlist::list;
+use oracle::gainlist_decks::document_lines;
+use oracle::ioncap::{cisi, IoncapParams};
 use oracle::output::i;
 use oracle::standins::StandIn;
 use std::fmt::Debug;
@@ -279,60 +281,35 @@ fn monopole(leg: f32, gain: f32, elevation: f32) -> f32 {
 
 /// The two cards of document 01, section 10, and the same swapped.
 fn listing(checks: &mut Checks) {
-    let mut slots = [0.0; 20];
-    (slots[2], slots[3]) = (4.0, 0.01);
-    let (mut monopole, mut rhombic) = (slots, slots);
-    monopole[5] = -0.5;
-    (rhombic[6], rhombic[7]) = (100.0, 20.0);
-
-    let mut height = 0.0;
-    let short = ["  2      0  -5565", "  3      0  -3000"];
-    let long = ["  2   -170  -3170", "  3   -170  -3170"];
+    let [monopole, rhombic] = document_lines();
+    let listed = |first: &[u8], second: &[u8]| {
+        let mut out = Vec::new();
+        let deck = [first, second].join(&b'\n');
+        list(&mut &deck[..], &mut out).expect("memory is read and written");
+        String::from_utf8(out).expect("ASCII")
+    };
     checks.same(
-        "card 1",
-        rows(&mut height, 2, &monopole),
-        short.map(String::from),
+        "the listing",
+        listed(&monopole, &rhombic).as_str(),
+        "      1  2  0
+  2      0  -5565
+  3      0  -3000
+      2  1  0
+  2   -170  -3170
+  3   -170  -3170
+      2      0
+",
     );
     checks.same(
-        "card 2",
-        rows(&mut height, 1, &rhombic),
-        long.map(String::from),
+        "swapped",
+        listed(&rhombic, &monopole).as_str(),
+        "      1  1  0
+  2   -170  -3170
+  3   -170  -3170
+      2  2  0
+  2      0  -3000
+  3      0  -3000
+      2      0
+",
     );
-
-    let mut height = 0.0;
-    let level = ["  2      0  -3000", "  3      0  -3000"];
-    checks.same(
-        "card 2 first",
-        rows(&mut height, 1, &rhombic),
-        long.map(String::from),
-    );
-    checks.same(
-        "card 1 last",
-        rows(&mut height, 2, &monopole),
-        level.map(String::from),
-    );
-}
-
-/// A card's lines for 2 and 3 MHz: MHz, efficiency, ground gain.
-fn rows(height: &mut f32, kop: i32, slots: &[f32; 20]) -> [String; 2] {
-    [2, 3].map(|mhz: i64| {
-        let mut row = (0..=90).map(|degrees| {
-            let cell = answer(&Call {
-                height: *height,
-                p: ioninit(kop, slots),
-                fmc: mhz as f32,
-                ..over_ground(kop, degrees as f32 * DEGREE)
-            });
-            *height = cell.height;
-            cell
-        });
-        let ground = row.next().expect("0 degrees").gain;
-        let efficiency = row.last().expect("90 degrees").efficiency;
-        i(mhz, 3) + &i(hundredths(efficiency), 7) + &i(hundredths(ground), 7)
-    })
-}
-
-/// Nearest to the exact value, halves away from zero; f64 holds it exactly.
-fn hundredths(v: f32) -> i64 {
-    (f64::from(v) * 100.0).round() as i64
 }
