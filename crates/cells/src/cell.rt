@@ -50,9 +50,12 @@ fn curtain_cell(
     finish::with_floor(kop, rain, eff, added)
 }
 
-fn cell(row: Row, azimuth: Azimuth, delta: f32, e: Elevation) -> f32
-    ensures { λ r. ⌜ r ≡ cellOf row azimuth delta e ⌝ }
+// The elevation comes as four numbers: as a struct it would be read whole from memory right after its
+// fields were written there one by one, and the processor waits for that.
+fn cell(row: Row, azimuth: Azimuth, delta: f32, t: f32, q: f32, r: f32, s: f32) -> f32
+    ensures { λ gain. ⌜ gain ≡ cellOf row azimuth delta (record { t = t; q = q; r = r; s = s }) ⌝ }
 {
+    let e = Elevation { t, q, r, s };
     let pattern = row.pattern;
     match pattern {
         Pattern::Curtain(card, spacings) => curtain_cell(card, spacings, row, azimuth, delta, e),
@@ -66,12 +69,8 @@ pub fn straight_up(row: Row) -> f32
 {
     let SineCosine { sine, cosine } = elementary::sin_cos(1.570796);
     let azimuth = reflection::azimuth_of(0.0);
-    cell(
-        row,
-        azimuth,
-        1.570796,
-        reflection::elevation_of(cosine, sine),
-    )
+    let Elevation { t, q, r, s } = reflection::elevation_of(cosine, sine);
+    cell(row, azimuth, 1.570796, t, q, r, s)
 }
 
 // By the fourth power of the elevation's sine, so that straight up reads the same at each azimuth.
@@ -96,7 +95,8 @@ pub fn looks_up(kop: i32) -> bool
 pub fn cell_gain(row: Row, up: f32, azimuth: Azimuth, delta: f32, e: Elevation) -> f32
     ensures { λ r. ⌜ r ≡ cellGain row up azimuth delta e ⌝ }
 {
-    let rain = cell(row, azimuth, delta, e);
+    let Elevation { t, q, r, s } = e;
+    let rain = cell(row, azimuth, delta, t, q, r, s);
     if looks_up(row.kop) {
         return blend(e, up, rain);
     }

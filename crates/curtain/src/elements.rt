@@ -35,22 +35,25 @@ pub(crate) fn at_most_ten(m: u8) -> usize
     if m > 10 { 10 } else { m as usize }
 }
 
+// Written where they are returned: a copy of the arrays costs time.
 pub(crate) fn element_waves(m: usize, q: f32, h1: f32, dz: f32) -> Waves
     requires { ⌜ m ≤ 10 ⌝ }
     ensures { λ r. ⌜ r ≡ wavesOf m q h1 dz ⌝ }
 {
     let factor = 2.0 * PI * q;
-    let mut ca = [0.0f32; 10];
-    let mut sa = [0.0f32; 10];
+    let mut waves = Waves {
+        ca: [0.0f32; 10],
+        sa: [0.0f32; 10],
+    };
     let mut j: usize = 0;
     while j < m {
         let k = j as u16;
         let both = elementary::sin_cos(factor * (h1 + k as f32 * dz));
-        ca[j] = both.cosine;
-        sa[j] = both.sine;
+        waves.ca[j] = both.cosine;
+        waves.sa[j] = both.sine;
         j += 1;
     }
-    Waves { ca, sa }
+    waves
 }
 
 // With the real parts ch and cv and the imaginary parts ph and pv of the reflections. One loop for
@@ -59,16 +62,14 @@ fn element_sums(m: usize, waves: Waves, ch: f32, ph: f32, cv: f32, pv: f32) -> B
     requires { ⌜ m ≤ 10 ⌝ }
     ensures { λ r. ⌜ (r .h ≡ sumsOf m waves ch ph) × (r .v ≡ sumsOf m waves cv pv) ⌝ }
 {
-    let ca = waves.ca;
-    let sa = waves.sa;
     let mut hreal = 0.0f32;
     let mut himg = 0.0f32;
     let mut vreal = 0.0f32;
     let mut vimg = 0.0f32;
     let mut j: usize = 0;
     while j < m {
-        let a = ca[j];
-        let b = sa[j];
+        let a = waves.ca[j];
+        let b = waves.sa[j];
         hreal = hreal + (a * (1.0 + ch) + ph * b);
         himg = himg + (b * (1.0 - ch) + ph * a);
         vreal = vreal + (a * (1.0 + cv) + pv * b);

@@ -5,21 +5,22 @@ ghost use Rattle.single.proofs.Positive.{normalUnits};
 ghost use Rattle.root.specs.Root.{IsRoot, rootUnits, root};
 ghost use Rattle.root.specs.Digits.{rootNear, radicandOf};
 
-// A guess at the 24 digits of the root of the f32 with the pattern b: Newton's iteration for the
-// reciprocal root, in f64. Nothing is claimed of it but its range.
+// A guess at the 24 digits of the root of the f32 with the pattern b, in f64: a reciprocal root from
+// the pattern, a step of Newton's, and a parabola near to 1 / root. Its pattern less the exponent that
+// the root has gives the digits. Nothing is claimed of them but their range.
 fn guess(b: u32) -> u64
     requires { ⌜ b < 2139095040 ⌝ }
-    ensures { λ g. ⌜ g ≤ 16777216 ⌝ }
+    ensures { λ g. ⌜ g < 33554432 ⌝ }
 {
     let y = f32::from_bits(b) as f64;
-    let r = f64::from_bits(0x5fe6_eb50_c7b5_37a9 - f64::to_bits(y) / 2 % 0x4000_0000_0000_0000);
-    let h = 0.5 * y;
-    let r1 = r * (1.5 - h * r * r);
-    let r2 = r1 * (1.5 - h * r1 * r1);
-    let r3 = r2 * (1.50000000005 - h * r2 * r2);
-    let w = y * r3;
+    let r = f64::from_bits(0x43e6_eb50_c7b5_37a9 - b as u64 * 0x1000_0000);
+    let r1 = 1.5 * r - 0.5 * y * r * (r * r);
+    let t = y * (r1 * r1) - 1.663743299;
+    let w = 0.37665 * y * r1 * (t * t + 2.214429568);
     if w == w {
-        (f64::to_bits(w) / 0x1000_0000 % 16777216 + 16777217) / 2
+        let c = (f64::to_bits(w) / 0x1000_0000 % 0x400_0000 + 1) / 2;
+        let k = (b / 8388608 + 125) / 2 * 8388608;
+        (c + 0x8000_0000 - k as u64) % 33554432
     } else {
         8388608
     }
@@ -27,7 +28,7 @@ fn guess(b: u32) -> u64
 
 // The largest r with r * r <= m, from a number near it.
 fn isqrt(m: u64, start: u64) -> u64
-    requires { ⌜ (m < 2 ^ 48) × (start ≤ 16777216) ⌝ }
+    requires { ⌜ (m < 2 ^ 48) × (start < 33554432) ⌝ }
     ensures { λ r. ⌜ IsRoot m r ⌝ }
 {
     let mut r = start;
@@ -42,7 +43,7 @@ fn isqrt(m: u64, start: u64) -> u64
 
 // The root of m, rounded to a whole number: the guess where it is within a half of it.
 fn rounded(m: u64, g: u64) -> u64
-    requires { ⌜ (m < 2 ^ 48) × (g ≤ 16777216) ⌝ }
+    requires { ⌜ (m < 2 ^ 48) × (g < 33554432) ⌝ }
     ensures { λ r. ⌜ r ≡ rootNear m ⌝ }
 {
     if g * g < m + g {

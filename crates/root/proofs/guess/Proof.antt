@@ -7,39 +7,45 @@ use borrow.Author.Needs.{needs}
 use Rattle.root.proofs.guess.Statement.{statement}
 use Rattle.root.proofs.guess.Tie as tie
 
--- src/lib.rt:14:13
 float-from-bits-y : tie.Need-float-from-bits-y
 float-from-bits-y c = finite-bits _ (c .pre)
 
--- src/lib.rt:14:13
 float-to-float-y : tie.Need-float-to-float-y
 float-to-float-y c = let b = c .before .args .b in and-i (fits binary64 (ofBits binary32 b)) _ (fits-widens (ofBits binary32 b) (ofBits-fits binary32 b)) (finite-bits-no-nan b (c .before .pre))
 
--- src/lib.rt:15:52
-float-to-bits-r : tie.Need-float-to-bits-r
-float-to-bits-r c = finite-bits-no-nan _ (c .before .pre)
+mul-r : tie.Need-mul-r
+mul-r c = search needs
 
--- src/lib.rt:15:28
 sub-r : tie.Need-sub-r
 sub-r c = search needs
 
--- src/lib.rt:15:13
 float-from-bits-r : tie.Need-float-from-bits-r
 float-from-bits-r c = bits-no-nan binary64 _ (omega arith)
 
--- src/lib.rt:22:10
-float-to-bits-result : tie.Need-float-to-bits-result
-float-to-bits-result c = no-nan _ (c .if1 .taken)
+float-to-bits-c : tie.Need-float-to-bits-c
+float-to-bits-c c = no-nan _ (c .if1 .taken)
 
--- src/lib.rt:22:10
+add-c : tie.Need-add-c
+add-c c = search needs
+
+add-k : tie.Need-add-k
+add-k c = search needs
+
+mul-k : tie.Need-mul-k
+mul-k c = search needs
+
 add-result : tie.Need-add-result
 add-result c = search needs
 
--- src/lib.rt:10:1
+cast-result : tie.Need-cast-result
+cast-result c = search needs
+
+sub-result : tie.Need-sub-result
+sub-result c = search needs
+
 returns : tie.Need-returns
 returns c = search needs
 
--- src/lib.rt:10:1
 returns-2 : tie.Need-returns-2
 returns-2 c = search needs
 
@@ -49,10 +55,15 @@ guess-spec =
     (tie.spec
     float-from-bits-y
     float-to-float-y
-    float-to-bits-r
+    mul-r
     sub-r
     float-from-bits-r
-    float-to-bits-result
+    float-to-bits-c
+    add-c
+    add-k
+    mul-k
     add-result
+    cast-result
+    sub-result
     returns
     returns-2)

@@ -6,8 +6,8 @@ use mir.Syntax.{w64}
 use Rattle.root.proofs.isqrt.Statement.{statement}
 use Rattle.root.proofs.isqrt.Tie as tie
 
-square-fits : (r : ℕ) → r ≤ 16777217 → Fits w64 (r * r)
-square-fits r h = let s : r * r ≤ 16777217 * 16777217 = mul-le-mul h h in omega arith
+square-fits : (r : ℕ) → r ≤ 33554432 → Fits w64 (r * r)
+square-fits r h = let s : r * r ≤ 33554432 * 33554432 = mul-le-mul h h in omega arith
 
 above-zero : (m r : ℕ) → m < r * r → 1 ≤ r
 above-zero m zero h = absurd (let g : m < 0 = h in omega arith)
@@ -17,16 +17,16 @@ root-below : (m r : ℕ) → (r + 1) * (r + 1) ≤ m → m < 281474976710656 →
 root-below m r h l = lt-of-not-le (λ (g : 16777216 ≤ r + 1). not-le-of-lt l (le-trans (let z : 281474976710656 ≤ (r + 1) * (r + 1) = mul-le-mul g g in z) h))
 
 abbrev Inv-loop : tie.InvT-loop
-Inv-loop m start r₀ r = r ≤ 16777216
+Inv-loop m start r₀ r = r < 33554432
 
 abbrev μ-loop : tie.MeasureT-loop
 μ-loop m start r₀ r = r
 
 abbrev Inv-loop2 : tie.InvT-loop2
-Inv-loop2 m start r₀ r = (r ≤ 16777216) × (r * r ≤ m)
+Inv-loop2 m start r₀ r = (r < 33554432) × (r * r ≤ m)
 
 abbrev μ-loop2 : tie.MeasureT-loop2
-μ-loop2 m start r₀ r = 16777216 - r
+μ-loop2 m start r₀ r = 33554432 - r
 
 loop-holds : tie.Need-loop-holds Inv-loop μ-loop Inv-loop2 μ-loop2
 loop-holds c = omega arith

@@ -1,5 +1,5 @@
 use mathlib.Core.Path.{sym}
-use Prim.Native.Nat.{ℕ, _*_, _≤_}
+use Prim.Native.Nat.{ℕ, _*_, _≤_, _<_}
 use native.Mathlib.Nat.{mul-le-mul}
 use mir.Val.{Fits}
 use mir.Syntax.{w64}
@@ -9,11 +9,11 @@ use borrow.Author.Needs.{needs}
 use Rattle.root.proofs.rounded.Statement.{statement}
 use Rattle.root.proofs.rounded.Tie as tie
 
-square-le : (r : ℕ) → r ≤ 16777216 → r * r ≤ 281474976710656
-square-le r h = mul-le-mul h h
+square-le : (r : ℕ) → r < 33554432 → r * r ≤ 1125899906842624
+square-le r h = let l : r ≤ 33554432 = omega (arith, h) in mul-le-mul l l
 
-square-fits : (r : ℕ) → r ≤ 16777216 → Fits w64 (r * r)
-square-fits r h = let s : r * r ≤ 281474976710656 = square-le r h in omega arith
+square-fits : (r : ℕ) → r < 33554432 → Fits w64 (r * r)
+square-fits r h = let s : r * r ≤ 1125899906842624 = square-le r h in omega arith
 
 mul-if1 : tie.Need-mul-if1
 mul-if1 c = square-fits (c .args .g) (c .pre .1)

@@ -28,7 +28,8 @@ power-cell-requires c κs = search needs
 returns : tie.Need-returns
 unfolding cellOf
 returns c = let s = c .before .before .before .before .args in
-    (c .curtain-cell .ensures) ∙ ap (λ (p : Pattern). cellBy p (s .row) (s .azimuth) (s .delta) (s .e)) (sym (c .before .before .pattern .given .1))
+    let e : Elevation = record { t = s .t; q = s .q; r = s .r; s = s .s } in
+    (c .curtain-cell .ensures) ∙ ap (λ (p : Pattern). cellBy p (s .row) (s .azimuth) (s .delta) e) (sym (c .before .before .pattern .given .1))
 
 no-curtain : (p : Pattern) → OneOf (0 ∷ 1 ∷ 2 ∷ 3 ∷ 5 ∷ 6 ∷ 7 ∷ 8 ∷ []) (tagOf the-type p) → (row : Row) (azimuth : Azimuth) (delta : Float) (e : Elevation) → powerCell row azimuth e ≡ cellBy p row azimuth delta e
 no-curtain (P.Rhombic legs) t row azimuth delta e = refl
@@ -44,7 +45,8 @@ no-curtain P.Other t row azimuth delta e = refl
 returns-2 : tie.Need-returns-2
 unfolding cellOf
 returns-2 c = let s = c .before .before .args in
-    (c .power-cell .ensures) ∙ no-curtain (s .row .pattern) (c .before .match .keys2) (s .row) (s .azimuth) (s .delta) (s .e)
+    let e : Elevation = record { t = s .t; q = s .q; r = s .r; s = s .s } in
+    (c .power-cell .ensures) ∙ no-curtain (s .row .pattern) (c .before .match .keys2) (s .row) (s .azimuth) (s .delta) e
 
 pub cell-spec : {M : Type 1} → statement M
 cell-spec =

@@ -9,26 +9,26 @@ use Rattle.curtain.proofs.elements.element_sums.Statement.{statement}
 use Rattle.curtain.proofs.elements.element_sums.Tie as tie
 
 abbrev Inv-loop : tie.InvT-loop
-Inv-loop m ch ph cv pv ca sa hreal₀ himg₀ vreal₀ vimg₀ j₀ hreal himg vreal vimg j = (j ≤ m) × (hreal ≡ sumsFrom j ca sa ch ph .real) × (himg ≡ sumsFrom j ca sa ch ph .imag) × (vreal ≡ sumsFrom j ca sa cv pv .real) × (vimg ≡ sumsFrom j ca sa cv pv .imag)
+Inv-loop m ch ph cv pv waves hreal₀ himg₀ vreal₀ vimg₀ j₀ hreal himg vreal vimg j = (j ≤ m) × (hreal ≡ sumsOf j waves ch ph .real) × (himg ≡ sumsOf j waves ch ph .imag) × (vreal ≡ sumsOf j waves cv pv .real) × (vimg ≡ sumsOf j waves cv pv .imag)
 
 abbrev μ-loop : tie.MeasureT-loop
-μ-loop m ch ph cv pv ca sa hreal₀ himg₀ vreal₀ vimg₀ j₀ hreal himg vreal vimg j = m - j
+μ-loop m ch ph cv pv waves hreal₀ himg₀ vreal₀ vimg₀ j₀ hreal himg vreal vimg j = m - j
 
 loop-holds : tie.Need-loop-holds Inv-loop μ-loop
-unfolding sumsFrom round ofBits
+unfolding sumsOf sumsFrom round ofBits
 loop-holds c = (omega arith, refl, refl, refl, refl)
 
 mul-a : tie.Need-mul-a Inv-loop μ-loop
 mul-a c = search needs
 
-array-read-a : tie.Need-array-read-a Inv-loop μ-loop
-array-read-a c = search needs
+element-copy-out-a : tie.Need-element-copy-out-a Inv-loop μ-loop
+element-copy-out-a c = search needs
 
 mul-b : tie.Need-mul-b Inv-loop μ-loop
 mul-b c = search needs
 
-array-read-b : tie.Need-array-read-b Inv-loop μ-loop
-array-read-b c = search needs
+element-copy-out-b : tie.Need-element-copy-out-b Inv-loop μ-loop
+element-copy-out-b c = search needs
 
 add-j : tie.Need-add-j Inv-loop μ-loop
 add-j c = search needs
@@ -37,12 +37,11 @@ loop-less : tie.Need-loop-less Inv-loop μ-loop
 loop-less c = search needs
 
 loop-again : tie.Need-loop-again Inv-loop μ-loop
-unfolding sumsFrom round ofBits
-loop-again c = let l = c .before .loop in (omega arith, rw (add-one (l .j), ← l .inv .1), rw (add-one (l .j), ← l .inv .2), rw (add-one (l .j), ← l .inv .3), rw (add-one (l .j), ← l .inv .4))
+unfolding sumsOf sumsFrom round ofBits
+loop-again c = let l = c .before .before .before .loop in (omega arith, rw (add-one (l .j), ← l .inv .1), rw (add-one (l .j), ← l .inv .2), rw (add-one (l .j), ← l .inv .3), rw (add-one (l .j), ← l .inv .4))
 
 returns : tie.Need-returns Inv-loop μ-loop
-unfolding sumsOf
-returns c = let l = c .before .loop in let e : l .j ≡ c .before .before .before .before .args .m = omega arith in (rw (← e, ← l .inv .1, ← l .inv .2), rw (← e, ← l .inv .3, ← l .inv .4))
+returns c = let l = c .before .loop in let e : l .j ≡ c .before .before .args .m = omega arith in (rw (← e, ← l .inv .1, ← l .inv .2), rw (← e, ← l .inv .3, ← l .inv .4))
 
 pub element-sums-spec : {M : Type 1} → statement M
 element-sums-spec =
@@ -52,9 +51,9 @@ element-sums-spec =
     μ-loop
     loop-holds
     mul-a
-    array-read-a
+    element-copy-out-a
     mul-b
-    array-read-b
+    element-copy-out-b
     add-j
     loop-less
     loop-again
