@@ -2,12 +2,15 @@
 // `step` and `finish` give, in turn.
 ghost use Prim.Native.Nat.{_+_, _≤_};
 ghost use lib.ListN.{length};
-ghost use Rattle.gainlist.specs.Buffers.{Buffers};
+ghost use Rattle.listing.specs.Sizes.{mostText};
+ghost use Rattle.listing.specs.Ready.{Ready};
 use libc::STDERR_FILENO;
 use libc::STDIN_FILENO;
 use libc::STDOUT_FILENO;
+use listing::MOST_HELD;
 use listing::ROOM;
 use listing::Session;
+use table::TABLE_LENGTH;
 
 // Text not written yet ends at `at`. The run ends with the input, or where a read or write failed.
 struct State {
@@ -33,8 +36,8 @@ fn flush(state: State, out: &[u8]) -> State
 
 // So that the next step has room.
 fn flush_full(state: State, out: &[u8]) -> State
-    requires { ⌜ (569 ≤ length (now out)) × (state .at ≤ length (now out)) ⌝ }
-    ensures { λ r. ⌜ r .at + 569 ≤ length (now (out .entry)) ⌝ }
+    requires { ⌜ (mostText ≤ length (now out)) × (state .at ≤ length (now out)) ⌝ }
+    ensures { λ r. ⌜ r .at + mostText ≤ length (now (out .entry)) ⌝ }
 {
     if state.at <= out.len() - ROOM {
         return state;
@@ -42,7 +45,7 @@ fn flush_full(state: State, out: &[u8]) -> State
     flush(state, out)
 }
 
-// All lines that end in the piece.
+// The whole piece: lines that end in it are listed, the rest is held.
 fn list_piece(
     state: State,
     line: &mut [u8],
@@ -50,8 +53,8 @@ fn list_piece(
     table: &mut [f32],
     out: &mut [u8],
 ) -> State
-    requires { ⌜ Buffers (now line) (now table) (now out) (state .at) ⌝ }
-    ensures { λ r. ⌜ r .at + 569 ≤ length (now (out .entry)) ⌝ }
+    requires { ⌜ Ready (now line) (now table) (now out) (state .at) ⌝ }
+    ensures { λ r. ⌜ r .at + mostText ≤ length (now (out .entry)) ⌝ }
 {
     let mut s = state;
     let mut used: usize = 0;
@@ -81,8 +84,8 @@ fn list_piece(
 
 // Reads once. Text is written before the next read, so that who sends cards one by one is answered.
 fn turn(state: State, line: &mut [u8], input: &mut [u8], table: &mut [f32], out: &mut [u8]) -> State
-    requires { ⌜ Buffers (now line) (now table) (now out) (state .at) ⌝ }
-    ensures { λ r. ⌜ r .at + 569 ≤ length (now (out .entry)) ⌝ }
+    requires { ⌜ Ready (now line) (now table) (now out) (state .at) ⌝ }
+    ensures { λ r. ⌜ r .at + mostText ≤ length (now (out .entry)) ⌝ }
 {
     let got = libc::read(STDIN_FILENO, input);
     if got <= 0 {
@@ -106,8 +109,16 @@ fn report_failure() {
     io::write_all(STDERR_FILENO, b"gainlist: a read or write failed\n");
 }
 
+fn write_last(out: &[u8], end: usize)
+    requires { ⌜ end ≤ length (now out) ⌝ }
+{
+    if !io::write_all(STDOUT_FILENO, &out[..end]) {
+        report_failure();
+    }
+}
+
 fn run(line: &mut [u8], input: &mut [u8], table: &mut [f32], out: &mut [u8])
-    requires { ⌜ Buffers (now line) (now table) (now out) 0 ⌝ }
+    requires { ⌜ Ready (now line) (now table) (now out) 0 ⌝ }
 {
     let mut state = State {
         session: listing::start(),
@@ -134,12 +145,12 @@ fn run(line: &mut [u8], input: &mut [u8], table: &mut [f32], out: &mut [u8])
         return;
     }
     let end = listing::finish(session, line, table, out, at);
-    io::write_all(STDOUT_FILENO, &out[..end]);
+    write_last(out, end);
 }
 
 fn main() {
-    let mut line = [0u8; 120];
-    let mut table = [0.0f32; 2760];
+    let mut line = [0u8; MOST_HELD];
+    let mut table = [0.0f32; TABLE_LENGTH];
     let mut input = io::large_buffer();
     let mut out = io::large_buffer();
     run(&mut line, &mut input, &mut table, &mut out);

@@ -1,4 +1,4 @@
--- A step takes a byte at least. Assumes nothing.
+-- A step on a piece that isn't empty takes a byte at least where the buffers are ready. Assumes nothing.
 use mathlib.Core.Path.{_≡_, refl, sym, ap, _∙_}
 use mathlib.Core.Bool.{Bool, true, false, cond}
 use mathlib.Core.List.{List, [], _∷_}

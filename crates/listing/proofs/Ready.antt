@@ -9,6 +9,7 @@ use lib.Dec.{eqb, leb}
 use lib.Ieee.{Float}
 use lib.ListN.{length}
 use Rattle.table.specs.Table.{isTable}
+use Rattle.listing.specs.Ready.{Ready}
 use Rattle.listing.specs.Session.{isReady}
 
 and-false : (b : Bool) → b && false ≡ false
@@ -42,12 +43,7 @@ module _ (line : List ℕ) (table : List Float) (out : List ℕ) (at : ℕ) wher
   room-left true l p e h = rw (eq-eqb (length line) 120 l, ← p) (same-test (leb at (length out - 569)) refl h)
   room-left false l p e h = absurd (let w : _≡_ {A = ℕ} 0 1 = cc in omega arith)
 
-  pub record Ready : Type 0 where
-    pub line-length : length line ≡ 120
-    pub table-length : length table ≡ 2760
-    pub room : at + 569 ≤ length out
-
-  pub ready : isReady line table out at ≡ true → Ready
+  pub ready : isReady line table out at ≡ true → Ready line table out at
   unfolding isReady isTable
   ready e =
       let p = and-parts (eqb (length line) 120 && isTable table) (leb (at + 569) (length out)) e in

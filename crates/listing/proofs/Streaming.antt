@@ -1,26 +1,30 @@
 -- Whatever the pieces of the input are, the texts of the steps and of the end are the listing. Assumes nothing.
-use mathlib.Core.Path.{_≡_, refl, sym, ap, subst, _∙_}
+use mathlib.Core.Path.{_≡_, refl, sym, ap, _∙_}
 use mathlib.Core.Bool.{Bool, true, false, cond}
 use mathlib.Core.List.{List, [], _∷_, _++_, append-assoc, append-nil}
-use Prim.Native.Nat.{ℕ, suc, _+_, _≤_, _<_}
+use Prim.Native.Nat.{ℕ, suc, _+_, _-_, _≤_}
 use native.Mathlib.Omega.{arith}
 use borrow.Author.Tests.{ltb-false}
 use lib.Dec.{eqb, ltb}
 use lib.Ieee.{Float}
-use lib.ListN.{length, length-append}
+use lib.ListN.{length, take, drop, length-append}
+use lib.Seq.{take-at, drop-at, length-take-le}
 use Rattle.table.specs.Table.{cleared}
 use Rattle.independence.specs.Deck.{Deck, Entry, fresh, outcomeOn, deckAfter}
 use Rattle.deck.specs.Antenna.{theAntenna}
-use Rattle.deck.specs.Run.{countLimit}
+use Rattle.deck.specs.Run.{countLimit, stateOf}
 use Rattle.card_line.specs.declared.line.Line as L
 use Rattle.card_line.specs.Line.{lineOf, malformedLine}
 use Rattle.card_line.proofs.Laws.{wrong-length}
+use Rattle.listing.specs.declared.session.Session as S
 use Rattle.listing.specs.Lines.{linesOf, onFirst}
 use Rattle.listing.specs.Text.{headingText, countsText}
 use Rattle.listing.specs.Listing.{lineIn, typeOf, rowsBy, entryOf, cardText, textsOf, listing}
-use Rattle.listing.specs.Session.{State, grown, Gathered, gathered, counted, lineText, afterLine, Step, holding, stepBy, stepOf, endBy, lastText, counts, finishText, ended, joined, remaining}
-use Rattle.listing.specs.Calls.{Calls, finished, stepped}
+use Rattle.listing.specs.Session.{State, stateIn, isReady, grown, Gathered, gathered, counted, lineText, afterLine, Step, holding, stepBy, stepOf, endBy, lastText, counts, finishText, ended, joined, remaining}
+use Rattle.listing.specs.Appended.{overwritten}
+use Rattle.listing.specs.Calls.{part, CallsDone, finished, stepped}
 use Rattle.listing.proofs.Cards.{heading-beyond}
+use Rattle.listing.proofs.Ready.{ready as ready-is}
 
 -- ---- places from 10,000,000 on
 beyond : (m n : ℕ) (d : Deck) (ls : List (List ℕ)) → 10000000 ≤ m → 10000000 ≤ n → textsOf m d ls ≡ textsOf n d ls
@@ -152,10 +156,30 @@ unfolding remaining listing
 start-lists s bytes d n h = rw (d, n, h) (ap (textsOf 0 fresh) (joined-none (linesOf bytes)))
 
 -- ---- calls in turn
-calls-remaining : {s : State} {bytes text : List ℕ} → Calls s bytes text → text ≡ remaining s bytes
-calls-remaining (finished {s}) = sym (finish-lists s)
-calls-remaining (stepped {s} ready piece rest c) = ap (λ (t : List ℕ). stepOf ready s piece .text ++ t) (calls-remaining c) ∙ sym (step-lists ready s piece rest)
+part-is : (out out′ t : List ℕ) (at b : ℕ) → at ≤ length out → out′ ≡ overwritten out at t → b ≡ at + length t → part at b out′ ≡ t
+unfolding overwritten
+part-is out out′ t at b h e l =
+    let n : b - at ≡ length t = omega arith in
+    ap (λ (x : List ℕ). take (b - at) (drop at x)) e
+    ∙ ap (take (b - at)) (drop-at (take at out) (t ++ drop (at + length t) out) at (length-take-le at out h))
+    ∙ take-at t (drop (at + length t) out) (b - at) (sym n)
 
--- the texts of all calls, one after another, are the listing of all bytes
-pub calls-list : {s : State} {bytes text : List ℕ} → s .deck ≡ fresh → s .listed ≡ 0 → s .held ≡ [] → Calls s bytes text → text ≡ listing bytes
-calls-list {s} {bytes} d n h c = calls-remaining c ∙ start-lists s bytes d n h
+remaining-calls : {s : S.Session} {line : List ℕ} {table : List Float} {bytes text : List ℕ} → CallsDone s line table bytes text → text ≡ remaining (stateIn s line table) bytes
+remaining-calls (finished s line table table′ out out′ at r ready x) =
+    let h = ready-is line table out at ready .room in
+    part-is out out′ (finishText (isReady line table out at) (stateIn s line table)) at r (omega arith) (x .text) (x .end)
+    ∙ ap (λ (b : Bool). finishText b (stateIn s line table)) ready
+    ∙ sym (finish-lists (stateIn s line table))
+remaining-calls (stepped s line line′ piece rest table table′ out out′ at r text h x c) =
+    let b = isReady line table out at in
+    let before = stateIn s line table in
+    ap (λ (t : List ℕ). t ++ text) (part-is out out′ (stepOf b before piece .text) at (r .at) h (x .text) (x .end))
+    ∙ ap (λ (t : List ℕ). stepOf b before piece .text ++ t) (remaining-calls c)
+    ∙ ap (λ (t : State). stepOf b before piece .text ++ remaining t (drop (r .used) piece ++ rest)) (x .state)
+    ∙ ap (λ (l : List ℕ). stepOf b before piece .text ++ remaining (stepOf b before piece .state) (l ++ rest)) (x .rest)
+    ∙ sym (step-lists b before piece rest)
+
+-- from the start on, the texts of all calls, one after another, are the listing of all bytes
+pub calls-list : (s : S.Session) (line : List ℕ) (table : List Float) (bytes text : List ℕ) → (stateOf (s .deck) ≡ fresh) × (s .listed ≡ 0) × (s .held ≡ 0) → CallsDone s line table bytes text → text ≡ listing bytes
+calls-list s line table bytes text start c =
+    remaining-calls c ∙ start-lists (stateIn s line table) bytes (start .0) (start .1) (ap (λ (n : ℕ). take n line) (start .2))

@@ -1,3 +1,5 @@
+pub mod Sizes
+pub mod Ready
 pub mod Lines
 pub mod Text
 pub mod Listing

@@ -10,6 +10,7 @@ use Rattle.independence.specs.Deck.{Deck, outcomeOn, deckAfter}
 use Rattle.deck.specs.Antenna.{theAntenna}
 use Rattle.deck.specs.Run.{countLimit, stateOf}
 use Rattle.listing.specs.declared.session.Session as S
+use Rattle.listing.specs.Sizes.{mostHeld, mostText, mostListed}
 use Rattle.listing.specs.Lines.{linesOf}
 use Rattle.listing.specs.Text.{countsText}
 use Rattle.listing.specs.Listing.{entryOf, cardText, textsOf}
@@ -25,14 +26,14 @@ pub record State : Type 0 where
 abbrev pub stateIn : S.Session → List ℕ → List Float → State
 stateIn s line table = record { deck = stateOf (s .deck); listed = s .listed; held = take (s .held) line; table = table }
 
--- a session that was made otherwise may say that it holds more than the buffer's 120
+-- a session that was made otherwise may say that it holds more than the buffer
 unfoldable pub heldIn : ℕ → ℕ
-heldIn n = cond (ltb n 120) n 120
+heldIn n = cond (ltb n mostHeld) n mostHeld
 
 -- ---- a line is gathered
--- a line of more than 119 bytes is malformed whatever follows, so no more than 120 are held
+-- one more byte of a line
 unfoldable pub grown : List ℕ → ℕ → List ℕ
-grown p b = cond (ltb (length p) 120) (p ++ (b ∷ [])) p
+grown p b = cond (ltb (length p) mostHeld) (p ++ (b ∷ [])) p
 
 -- whether the line is whole, what is held of it, and what is left of the piece
 pub record Gathered : Type 0 where
@@ -46,9 +47,9 @@ gathered p [] = record { whole = false; held = p; rest = [] }
 gathered p (b ∷ bs) = cond (eqb b 10) (record { whole = true; held = p; rest = bs }) (gathered (grown p b) bs)
 
 -- ---- a whole line is listed
--- places from 10,000,000 on print as stars, so the number stops there
+-- places print as stars from there on, so the number stops
 unfoldable pub counted : ℕ → ℕ
-counted n = cond (ltb n 10000000) (suc n) n
+counted n = cond (ltb n mostListed) (suc n) n
 
 unfoldable pub lineText : State → List ℕ → List ℕ
 lineText s l = cardText (suc (s .listed)) (entryOf l .line) (outcomeOn theAntenna countLimit (s .deck) (entryOf l))
@@ -115,6 +116,6 @@ unfoldable pub remaining : State → List ℕ → List ℕ
 remaining s bs = textsOf (s .listed) (s .deck) (joined (s .held) (linesOf bs))
 
 -- ---- the buffers handed to a call
--- the line's has 120 bytes, the table is one, and there is room in `out` from `at` on for the longest text: 14 bytes of a card's first line, 18 of each of its 30 rows, 15 of the counts
+-- they are ready (`Ready`), as a test
 unfoldable pub isReady : List ℕ → List Float → List ℕ → ℕ → Bool
-isReady line table out at = eqb (length line) 120 && isTable table && leb (at + 569) (length out)
+isReady line table out at = eqb (length line) mostHeld && isTable table && leb (at + mostText) (length out)

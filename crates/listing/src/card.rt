@@ -2,6 +2,7 @@
 ghost use mathlib.Core.Path.{_≡_};
 ghost use Prim.Native.Nat.{_+_, _≤_};
 ghost use lib.ListN.{length, take};
+ghost use Rattle.table.specs.Table.{tableLength};
 ghost use Rattle.deck.specs.Run.{stateOf};
 ghost use Rattle.listing.specs.Appended.{Appended};
 ghost use Rattle.listing.specs.Listing.{lineIn, typeOf, rowsBy};
@@ -33,7 +34,7 @@ fn count(listed: u32) -> u32
 }
 
 fn run_line(deck: Deck, line: Line, table: &mut [f32]) -> Ran
-    requires { ⌜ length (now table) ≡ 2760 ⌝ }
+    requires { ⌜ length (now table) ≡ tableLength ⌝ }
     ensures { λ r. ⌜ LineRun (stateOf deck) line (now (table .exit)) (r .verdict) (stateOf (r .deck)) ⌝ }
 {
     let Line {
@@ -58,7 +59,7 @@ fn card_type(line: Line) -> i32
 
 // A refused card has none.
 fn rows(line: Line, verdict: u32, table: &[f32], out: &mut [u8], at: usize) -> usize
-    requires { ⌜ (verdict ≡ 0 → AcceptedLine line) × (length (now table) ≡ 2760) × (at + 540 ≤ length (now out)) ⌝ }
+    requires { ⌜ (verdict ≡ 0 → AcceptedLine line) × (length (now table) ≡ tableLength) × (at + 540 ≤ length (now out)) ⌝ }
     ensures { λ r. ⌜ Appended (now (out .entry)) at (rowsBy (lineIn line) (now (table .entry)) verdict) (now (out .exit)) r ⌝ }
     ensures { λ r. ⌜ r ≤ at + 540 ⌝ }
 {
@@ -80,7 +81,7 @@ pub(crate) fn list_line(
     out: &mut [u8],
     at: usize,
 ) -> Listed
-    requires { ⌜ (held ≤ length (now line)) × (length (now table) ≡ 2760) × (at + 554 ≤ length (now out)) ⌝ }
+    requires { ⌜ (held ≤ length (now line)) × (length (now table) ≡ tableLength) × (at + 554 ≤ length (now out)) ⌝ }
     ensures { λ r. ⌜ LineListed session (take held (now (line .entry))) (now (table .entry)) (now (table .exit)) (now (out .entry)) at (now (out .exit)) r ⌝ }
 {
     let Session { deck, listed, .. } = session;

@@ -2,11 +2,12 @@
 ghost use mathlib.Core.Path.{_≡_};
 ghost use Prim.Native.Nat.{_≤_};
 ghost use lib.ListN.{length, take, drop};
+ghost use Rattle.listing.specs.Sizes.{mostHeld};
 ghost use Rattle.listing.specs.Session.{grown};
 ghost use Rattle.listing.specs.Gathering.{GatherDone};
 
 // A line of more than 119 bytes is malformed, so no more than these are held.
-pub(crate) const MOST_HELD: usize = 120;
+pub const MOST_HELD: usize = 120;
 
 pub(crate) struct Gathered {
     pub whole: bool,
@@ -15,8 +16,8 @@ pub(crate) struct Gathered {
 }
 
 fn push(line: &mut [u8], held: usize, b: u8) -> usize
-    requires { ⌜ (length (now line) ≡ 120) × (held ≤ 120) ⌝ }
-    ensures { λ r. ⌜ (take r (now (line .exit)) ≡ grown (take held (now (line .entry))) b) × (r ≤ 120) × (held ≤ r)
+    requires { ⌜ (length (now line) ≡ mostHeld) × (held ≤ mostHeld) ⌝ }
+    ensures { λ r. ⌜ (take r (now (line .exit)) ≡ grown (take held (now (line .entry))) b) × (r ≤ mostHeld) × (held ≤ r)
         × (drop r (now (line .exit)) ≡ drop r (now (line .entry))) ⌝ }
 {
     if held < MOST_HELD {
@@ -28,7 +29,7 @@ fn push(line: &mut [u8], held: usize, b: u8) -> usize
 
 // Bytes of the piece up to a line feed or its end.
 pub(crate) fn gather(line: &mut [u8], held: usize, piece: &[u8]) -> Gathered
-    requires { ⌜ (length (now line) ≡ 120) × (held ≤ 120) ⌝ }
+    requires { ⌜ (length (now line) ≡ mostHeld) × (held ≤ mostHeld) ⌝ }
     ensures { λ r. ⌜ GatherDone held (now (line .entry)) (now (piece .entry)) (now (line .exit)) r ⌝ }
 {
     let mut len = held;

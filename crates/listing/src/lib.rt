@@ -5,6 +5,7 @@ mod gathering;
 mod session;
 mod writing;
 
+pub use gathering::MOST_HELD;
 pub use session::ROOM;
 pub use session::Session;
 pub use session::Stepped;

@@ -54,7 +54,7 @@ fn is_ready(line: &[u8], table: &[f32], out: &[u8], at: usize) -> bool
 }
 
 // A session that was made otherwise may say that it holds more than there is.
-fn in_buffer(session: Session) -> usize
+fn held_in(session: Session) -> usize
     ensures { λ r. ⌜ r ≡ heldIn (session .held) ⌝ }
 {
     let held = session.held;
@@ -81,7 +81,7 @@ pub fn step(
             at,
         };
     }
-    let gathered = gather(line, in_buffer(session), piece);
+    let gathered = gather(line, held_in(session), piece);
     let held = gathered.held;
     if !gathered.whole {
         let Session { deck, listed, .. } = session;
@@ -100,14 +100,15 @@ pub fn step(
     }
 }
 
-// The input has ended: a line whose line feed is missing, then the counts.
+// The input has ended: a line whose line feed is missing, then the counts. Nothing is written where
+// the buffers aren't ready: the answer is then `at`.
 pub fn finish(session: Session, line: &[u8], table: &mut [f32], out: &mut [u8], at: usize) -> usize
     ensures { λ r. ⌜ FinishDone session (now (line .entry)) (now (table .entry)) (now (out .entry)) at (now (table .exit)) (now (out .exit)) r ⌝ }
 {
     if !is_ready(line, table, out, at) {
         return at;
     }
-    let held = in_buffer(session);
+    let held = held_in(session);
     let Session { deck, .. } = session;
     if held == 0 {
         return writing::counts(deck.accepted, deck.refused, out, at);

@@ -2,7 +2,9 @@
 mod printing;
 
 use deck::Deck;
+use listing::MOST_HELD;
 use listing::Session;
+use table::TABLE_LENGTH;
 
 // A deck that has refused so many cards.
 fn session_after(refused: u32) -> Session {
@@ -20,8 +22,8 @@ fn session_after(refused: u32) -> Session {
 
 // One listing, in pieces of `size` bytes.
 fn list(start: Session, input: &[u8], size: usize) {
-    let mut line = [0u8; 120];
-    let mut table = [0.0f32; 2760];
+    let mut line = [0u8; MOST_HELD];
+    let mut table = [0.0f32; TABLE_LENGTH];
     let mut out = io::buffer();
     printing::print_listing(start, input, size, &mut line, &mut table, &mut out);
 }

@@ -10,7 +10,7 @@ use Rattle.listing.proofs.session.finish.Tie as tie
 use Rattle.listing.proofs.session.finish.Reads as reads
 use Rattle.listing.proofs.session.finish.Lts as lts
 use Rattle.listing.proofs.card.list_line.Reads as list-line-reads
-use Rattle.listing.proofs.session.in_buffer.Reads as in-buffer-reads
+use Rattle.listing.proofs.session.held_in.Reads as held-in-reads
 use Rattle.listing.proofs.session.is_ready.Reads as is-ready-reads
 use Rattle.listing.proofs.writing.counts.Reads as counts-reads
 
@@ -31,8 +31,8 @@ returns : tie.Need-returns
 returns c = finish-idle _ _ _ _ _ _ (c .before .is-ready .ensures) (c .if1 .taken)
 
 -- src/session.rt:110:9
-in-buffer-requires : tie.Need-in-buffer-requires
-in-buffer-requires c κs = search needs
+held-in-requires : tie.Need-held-in-requires
+held-in-requires c κs = search needs
 
 -- src/session.rt:113:9
 counts-requires : tie.Need-counts-requires
@@ -48,11 +48,11 @@ same-length-4 c = search needs
 
 -- src/session.rt:113:9
 returns-2 : tie.Need-returns-2
-returns-2 c = finish-empty _ _ _ _ _ _ (c .before .before .before .before .before .before .before .before .is-ready .ensures) _ _ _ (c .before .before .before .before .before .before .before .if1 .left) (c .before .before .before .before .before .before .in-buffer .ensures) (c .before .before .before .before .if2 .taken) (c .before .before .counts .ensures)
+returns-2 c = finish-empty _ _ _ _ _ _ (c .before .before .before .before .before .before .before .before .is-ready .ensures) _ _ _ (c .before .before .before .before .before .before .before .if1 .left) (c .before .before .before .before .before .before .held-in .ensures) (c .before .before .before .before .if2 .taken) (c .before .before .counts .ensures)
 
 -- src/session.rt:115:9
 list-line-requires : tie.Need-list-line-requires
-list-line-requires c κs = let r = tested _ _ _ _ _ (c .before .before .before .before .before .before .is-ready .ensures) (c .before .before .before .before .before .if1 .left) in (omega (arith, c .before .before .before .before .in-buffer .ensures, held-low (c .before .before .before .before .before .before .before .before .before .before .before .before .args .session .held), r .line-length), r .table-length, omega (arith, r .room))
+list-line-requires c κs = let r = tested _ _ _ _ _ (c .before .before .before .before .before .before .is-ready .ensures) (c .before .before .before .before .before .if1 .left) in (omega (arith, c .before .before .before .before .held-in .ensures, held-low (c .before .before .before .before .before .before .before .before .before .before .before .before .args .session .held), r .line-length), r .table-length, omega (arith, r .room))
 
 -- src/session.rt:118:5
 counts-requires-2 : tie.Need-counts-requires-2
@@ -68,7 +68,7 @@ same-length-6 c = search needs
 
 -- src/session.rt:104:1
 returns-3 : tie.Need-returns-3
-returns-3 c = finish-held _ _ _ _ _ _ (c .before .before .before .before .before .before .before .before .before .before .before .before .before .before .before .before .before .is-ready .ensures) _ _ _ _ (c .before .before .before .before .before .before .before .before .before .before .list-line .result) _ (c .before .before .before .before .before .before .before .before .before .before .before .before .before .before .before .before .if1 .left) (c .before .before .before .before .before .before .before .before .before .before .before .before .before .before .before .in-buffer .ensures) (c .before .before .before .before .before .before .before .before .before .before .before .before .before .if2 .left) (c .before .before .before .before .before .before .before .before .before .before .list-line .ensures) (c .before .before .counts2 .ensures)
+returns-3 c = finish-held _ _ _ _ _ _ (c .before .before .before .before .before .before .before .before .before .before .before .before .before .before .before .before .before .is-ready .ensures) _ _ _ _ (c .before .before .before .before .before .before .before .before .before .before .list-line .result) _ (c .before .before .before .before .before .before .before .before .before .before .before .before .before .before .before .before .if1 .left) (c .before .before .before .before .before .before .before .before .before .before .before .before .before .before .before .held-in .ensures) (c .before .before .before .before .before .before .before .before .before .before .before .before .before .if2 .left) (c .before .before .before .before .before .before .before .before .before .before .list-line .ensures) (c .before .before .counts2 .ensures)
 
 pub finish-spec : {M : Type 1} → statement M
 finish-spec =
@@ -78,7 +78,7 @@ finish-spec =
     same-length
     same-length-2
     returns
-    in-buffer-requires
+    held-in-requires
     counts-requires
     same-length-3
     same-length-4

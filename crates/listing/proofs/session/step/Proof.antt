@@ -11,7 +11,7 @@ use Rattle.listing.proofs.session.step.Reads as reads
 use Rattle.listing.proofs.session.step.Lts as lts
 use Rattle.listing.proofs.card.list_line.Reads as list-line-reads
 use Rattle.listing.proofs.gathering.gather.Reads as gather-reads
-use Rattle.listing.proofs.session.in_buffer.Reads as in-buffer-reads
+use Rattle.listing.proofs.session.held_in.Reads as held-in-reads
 use Rattle.listing.proofs.session.is_ready.Reads as is-ready-reads
 
 -- src/session.rt:77:9
@@ -35,12 +35,12 @@ returns : tie.Need-returns
 returns c = step-idle _ _ _ _ _ _ (c .before .is-ready .ensures) _ (c .if1 .taken)
 
 -- src/session.rt:84:33
-in-buffer-requires : tie.Need-in-buffer-requires
-in-buffer-requires c κs = search needs
+held-in-requires : tie.Need-held-in-requires
+held-in-requires c κs = search needs
 
 -- src/session.rt:84:9
 gather-requires : tie.Need-gather-requires
-gather-requires c κs = (tested _ _ _ _ _ (c .before .before .before .is-ready .ensures) (c .before .before .if1 .left) .line-length, omega (arith, c .in-buffer .ensures, held-low (c .before .before .before .before .before .before .before .before .before .before .before .args .session .held)))
+gather-requires c κs = (tested _ _ _ _ _ (c .before .before .before .is-ready .ensures) (c .before .before .if1 .left) .line-length, omega (arith, c .held-in .ensures, held-low (c .before .before .before .before .before .before .before .before .before .before .before .args .session .held)))
 
 -- src/session.rt:88:9
 same-length-4 : tie.Need-same-length-4
@@ -56,7 +56,7 @@ same-length-6 c = search needs
 
 -- src/session.rt:88:9
 returns-2 : tie.Need-returns-2
-returns-2 c = step-part _ _ _ _ _ _ (c .before .before .before .before .before .before .before .before .before .is-ready .ensures) _ _ (c .before .before .before .before .before .gather .result) (c .before .before .before .before .before .before .before .before .if1 .left) _ (c .before .before .before .before .before .before .in-buffer .ensures) (c .before .before .before .before .before .gather .ensures) (search needs) (c .before .if2 .taken)
+returns-2 c = step-part _ _ _ _ _ _ (c .before .before .before .before .before .before .before .before .before .is-ready .ensures) _ _ (c .before .before .before .before .before .gather .result) (c .before .before .before .before .before .before .before .before .if1 .left) _ (c .before .before .before .before .before .before .held-in .ensures) (c .before .before .before .before .before .gather .ensures) (search needs) (c .before .if2 .taken)
 
 -- src/session.rt:94:9
 list-line-requires : tie.Need-list-line-requires
@@ -76,7 +76,7 @@ same-length-9 c = search needs
 
 -- src/session.rt:66:1
 returns-3 : tie.Need-returns-3
-returns-3 c = step-whole _ _ _ _ _ _ (c .before .before .before .before .before .before .before .before .before .before .before .before .before .before .before .before .before .is-ready .ensures) _ _ (c .before .before .before .before .before .before .before .before .before .before .before .before .before .gather .result) (c .before .before .before .before .before .before .before .before .before .before .before .before .before .before .before .before .if1 .left) _ (c .before .before .before .before .before .before .before .before .before .before .before .before .before .before .in-buffer .ensures) (c .before .before .before .before .before .before .before .before .before .before .before .before .before .gather .ensures) (search needs) _ _ _ (c .before .before .before .before .before .before .before .before .before .if2 .left) (c .before .before .before .before .before .list-line .ensures)
+returns-3 c = step-whole _ _ _ _ _ _ (c .before .before .before .before .before .before .before .before .before .before .before .before .before .before .before .before .before .is-ready .ensures) _ _ (c .before .before .before .before .before .before .before .before .before .before .before .before .before .gather .result) (c .before .before .before .before .before .before .before .before .before .before .before .before .before .before .before .before .if1 .left) _ (c .before .before .before .before .before .before .before .before .before .before .before .before .before .before .held-in .ensures) (c .before .before .before .before .before .before .before .before .before .before .before .before .before .gather .ensures) (search needs) _ _ _ (c .before .before .before .before .before .before .before .before .before .if2 .left) (c .before .before .before .before .before .list-line .ensures)
 
 pub step-spec : {M : Type 1} → statement M
 step-spec =
@@ -87,7 +87,7 @@ step-spec =
     same-length-2
     same-length-3
     returns
-    in-buffer-requires
+    held-in-requires
     gather-requires
     same-length-4
     same-length-5

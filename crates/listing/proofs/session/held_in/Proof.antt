@@ -1,10 +1,10 @@
 use mathlib.Core.Path.{refl}
 use borrow.Author.Tests.{lt-ltb, le-ltb}
 use Rattle.listing.specs.Session.{heldIn}
-use Rattle.listing.proofs.session.in_buffer.Statement.{statement}
-use Rattle.listing.proofs.session.in_buffer.Tie as tie
-use Rattle.listing.proofs.session.in_buffer.Reads as reads
-use Rattle.listing.proofs.session.in_buffer.Lts as lts
+use Rattle.listing.proofs.session.held_in.Statement.{statement}
+use Rattle.listing.proofs.session.held_in.Tie as tie
+use Rattle.listing.proofs.session.held_in.Reads as reads
+use Rattle.listing.proofs.session.held_in.Lts as lts
 
 -- src/session.rt:53:1
 returns : tie.Need-returns
@@ -16,5 +16,5 @@ returns-2 : tie.Need-returns-2
 unfolding heldIn
 returns-2 c = rw (le-ltb (c .before .args .session .held) 120 (c .if1 .left)) refl
 
-pub in-buffer-spec : {M : Type 1} → statement M
-in-buffer-spec = tie.close (tie.spec returns returns-2)
+pub held-in-spec : {M : Type 1} → statement M
+held-in-spec = tie.close (tie.spec returns returns-2)
