@@ -1,5 +1,5 @@
 // The cards of the examples: dielectric 4 and conductivity 0.01.
-use crate::tables::fill;
+use crate::tables::BEFORE;
 use deck::Deck;
 use deck::Fields;
 use deck::Ran;
@@ -64,7 +64,7 @@ pub(crate) fn entry_card(k: usize) -> Fields {
 
 // Each entry brings the same table.
 pub(crate) fn run_entry(k: usize, deck: Deck, table: &mut [f32]) -> Ran {
-    fill(table);
+    table::fill(table, BEFORE);
     if k == MALFORMED {
         return deck::run_malformed(deck, table);
     }
