@@ -22,7 +22,7 @@ returns-2 : tie.Need-returns-2
 unfolding refusedTable filledWith cleared isTable round ofBits
 returns-2 c =
     let n = c .before .before .before .before .if1 .left in
-    simp (eq-eqb _ _ n) (c .before .fill .ensures ∙ ap (λ k. replicate k (num 0 1)) n)
+    simp (eq-eqb _ _ n) (c .before .before .fill .ensures ∙ ap (λ k. replicate k (num 0 1)) n)
 
 pub clear-refused-spec : {M : Type 1} → statement M
 clear-refused-spec = tie.close (tie.spec returns fill-requires same-length returns-2)
