@@ -1,8 +1,8 @@
 // Decks that hold something already: the ends of the counts, the height, and the table's length.
 ghost use Prim.Native.Nat.{_≤_};
 use crate::example_cards::rhombic;
-use crate::tables::count;
 use crate::tables::BEFORE;
+use crate::tables::count;
 use crate::text::print;
 use crate::text::print_hundredths;
 use crate::text::print_number;
