@@ -1,29 +1,25 @@
 -- A number within the limits is cut to one that a cast to f32 keeps. Assumes nothing.
-use Prim.Native.Nat.{ℕ, _*_, _≤_, _^_}
+use Prim.Native.Nat.{_^_}
 use mathlib.Core.Path.{_≡_, sym, subst}
-use mathlib.Core.Bool.{Bool, true, false, not}
-use native.Mathlib.Nat.{le-trans, mul-le-mul, le-refl, mul-one}
+use mathlib.Core.Bool.{false}
+use native.Mathlib.Nat.{le-trans, mul-le-mul, le-refl}
 use lib.Dec.{T, lit≤}
 use lib.IntN.{ℤ}
-use lib.Ieee.{Float, nan, inf, fin, binary32, up, down, round, lt, le, eq, ofBits, inFloat}
-use Rattle.single.specs.Single.{num}
-use Rattle.single.proofs.Magnitude.{Mag, or-le}
-use Rattle.elementary.specs.Basic.{absolute, cutToward}
+use lib.Ieee.{Float, nan, inf, fin, binary32, down, lt, ofBits, inFloat}
+use Rattle.single.proofs.Magnitude.{Mag}
+use Rattle.elementary.specs.Basic.{cutToward}
 use Rattle.basic.specs.WholePart.{wholePart}
 use Rattle.basic.proofs.WholePart.{cut-parts, whole-below, signed-float}
 use Rattle.limits.specs.Tests.{outside}
+use Rattle.limits.proofs.Outside as L
 
-not-false : (b : Bool) → not b ≡ false → T b
-not-false true e = tt
-not-false false e = absurd (subst T e tt)
+wider : (x : Float) → Mag 1000 x → Mag (2 ^ 21) x
+wider nan h = h
+wider (inf s) h = h
+wider (fin s m e) h = le-trans h (mul-le-mul (lit≤ tt) (le-refl (down e)))
 
 pub within-mag : (x : Float) → outside x ≡ false → Mag (2 ^ 21) x
-unfolding outside absolute round le lt eq
-within-mag nan h = absurd (subst T h tt)
-within-mag (inf s) h = absurd (subst T h tt)
-within-mag (fin s m e) h =
-    le-trans (subst (λ (z : ℕ). z ≤ 1000 * down e) (mul-one (m * up e)) (or-le (m * up e * 1) (1000 * down e) (not-false (le (fin false m e) (num 1000 1)) h)))
-    (mul-le-mul (lit≤ tt) (le-refl (down e)))
+within-mag x h = wider x (L.within-mag x h)
 
 pub cut-kept : (x : Float) → outside x ≡ false → T (inFloat binary32 (cutToward x))
 cut-kept x h =

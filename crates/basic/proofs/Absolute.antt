@@ -3,13 +3,13 @@ use mathlib.Core.Path.{_≡_, refl, sym, ap, subst, _∙_}
 use mathlib.Core.Bool.{Bool, true, false, cond, _&&_, _||_}
 use Prim.Native.Nat.{ℕ, zero, suc, _+_, _*_, _/_, _%_, _<_}
 use native.Mathlib.Omega.{arith}
-use native.Mathlib.Nat.{zero-mul, mul-pos, lt-irrefl, zero-lt-suc}
+use native.Mathlib.Nat.{zero-mul, lt-irrefl}
 use borrow.Author.Tests.{lt-ltb, le-ltb, ne-eqb}
 use lib.Dec.{T, ltb, leb, eqb}
 use lib.IntN.{ℤ, pos}
 use lib.Ieee.{Float, nan, inf, fin, binary32, up, down, odd, round, neg, add, sub, sum, lt, le, eq, level, fits, ofBits, ofFields}
-use lib.Ieee.Fits.{up-pos}
 use Rattle.single.specs.Single.{isNegative}
+use Rattle.single.proofs.Positive.{scaled-pos}
 use Rattle.single.proofs.Value.{plain, ofBits-is, zero-exp}
 use Rattle.single.proofs.Exact.{zero-minus}
 use Rattle.basic.specs.Basic.{absolute}
@@ -36,21 +36,18 @@ unfolding sub add neg sum round
 zero-clear true = refl
 zero-clear false = refl
 
-above : (m : ℕ) (e : ℤ) → 0 < suc m * up e * 1
-above m e = mul-pos (mul-pos (zero-lt-suc m) (up-pos e)) (zero-lt-suc 0)
-
 not-below : (m : ℕ) (e : ℤ) → ltb (suc m * up e * 1) (0 * down e) ≡ false
-not-below m e = le-ltb (suc m * up e * 1) (0 * down e) (let z : 0 * down e ≡ 0 = zero-mul (down e) in let p : 0 < suc m * up e * 1 = above m e in omega arith)
+not-below m e = le-ltb (suc m * up e * 1) (0 * down e) (let z : 0 * down e ≡ 0 = zero-mul (down e) in let p : 0 < suc m * up e * 1 = scaled-pos m e in omega arith)
 
 not-level : (m : ℕ) (e : ℤ) → eqb (suc m * up e * 1) (0 * down e) ≡ false
-not-level m e = ne-eqb (suc m * up e * 1) (0 * down e) (λ q. lt-irrefl 0 (subst (λ (x : ℕ). 0 < x) (q ∙ zero-mul (down e)) (above m e)))
+not-level m e = ne-eqb (suc m * up e * 1) (0 * down e) (λ q. lt-irrefl 0 (subst (λ (x : ℕ). 0 < x) (q ∙ zero-mul (down e)) (scaled-pos m e)))
 
 -- -0 is level with 0, and a number below 0 is below it
 none : (e : ℤ) → (ltb 0 (0 * up e * 1 + 0 * down e) || level true (0 * up e * 1) false (0 * down e)) ≡ true
 none e = simp (zero-mul)
 
 some : (m : ℕ) (e : ℤ) → (ltb 0 (suc m * up e * 1 + 0 * down e) || level true (suc m * up e * 1) false (0 * down e)) ≡ true
-some m e = simp (lt-ltb 0 (suc m * up e * 1 + 0 * down e) (let p : 0 < suc m * up e * 1 = above m e in omega arith))
+some m e = simp (lt-ltb 0 (suc m * up e * 1 + 0 * down e) (let p : 0 < suc m * up e * 1 = scaled-pos m e in omega arith))
 
 pub below-clears : (x : Float) → T (fits binary32 x) → le x (ofBits binary32 0) ≡ true → sub binary32 (ofBits binary32 0) x ≡ absolute x
 unfolding le lt eq ofBits absolute

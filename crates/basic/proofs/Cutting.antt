@@ -1,6 +1,6 @@
 -- `as i32`, by the tests that the code makes: the range, beyond it either way, and NaN. Assumes nothing.
 use mathlib.Core.Path.{_≡_, refl, sym, ap, subst, _∙_}
-use mathlib.Core.Bool.{Bool, true, false, _||_}
+use mathlib.Core.Bool.{true, false, true≢false}
 use Prim.Native.Nat.{ℕ, _+_, _-_, _*_, _/_, _^_, _≤_, _<_, min}
 use native.Mathlib.Omega.{arith}
 use native.Mathlib.Nat.{zero-mul, div-lt-iff-lt-mul, le-div-iff-mul-le}
@@ -9,6 +9,7 @@ use lib.Dec.{T, ltb}
 use lib.IntN.{pos, negsuc, negℤ}
 use lib.Ieee.{Float, nan, inf, fin, up, down, lt, le, eq, toSigned}
 use lib.Ieee.Fits.{down-pos}
+use Rattle.single.proofs.Booleans.{or-left}
 use Rattle.single.proofs.Magnitude.{Mag, mag-of, or-i}
 use Rattle.basic.specs.Basic.{cutToward}
 use Rattle.basic.proofs.WholePart.{whole-below}
@@ -22,13 +23,6 @@ high = fin false 1 (pos 31)
 
 abbrev none : Float
 none = fin false 0 (pos 0)
-
-or-false : (p q : Bool) → (p || q) ≡ false → p ≡ false
-or-false true q h = h
-or-false false q h = refl
-
-clash : (b : Bool) → b ≡ true → b ≡ false → ⊥
-clash b h g = subst T (sym h ∙ g) tt
 
 pub range-mag : (x : Float) → le low x ≡ true → lt x high ≡ true → Mag (2 ^ 31) x
 unfolding le
@@ -60,7 +54,7 @@ unfolding cutToward toSigned le lt eq
 cut-high nan h g = absurd (subst T (sym h) tt)
 cut-high (inf true) h g = absurd (subst T (sym h) tt)
 cut-high (inf false) h g = refl
-cut-high (fin true m e) h g = absurd (clash (ltb 0 (m * up e * 1 + 1 * 2 ^ 31 * down e)) (some (m * up e * 1) (down e) (down-pos e)) g)
+cut-high (fin true m e) h g = absurd (true≢false (sym (some (m * up e * 1) (down e) (down-pos e)) ∙ g))
 cut-high (fin false m e) h g =
     let l : 1 * 2 ^ 31 * down e ≤ m * up e * 1 = ltb-false (m * up e * 1) (1 * 2 ^ 31 * down e) g in
     let w : 2147483648 ≤ m * up e / down e = le-div-iff-mul-le {k = down e} {x = 2147483648} {y = m * up e} (down-pos e) .1 (omega arith) in
@@ -72,7 +66,7 @@ cut-low nan h g = absurd (subst T (sym g) tt)
 cut-low (inf true) h g = refl
 cut-low (inf false) h g = absurd (subst T (sym g) tt)
 cut-low (fin true m e) h g =
-    let l : 1 * 2 ^ 31 * down e ≤ m * up e * 1 = ltb-false (m * up e * 1) (1 * 2 ^ 31 * down e) (or-false _ _ h) in
+    let l : 1 * 2 ^ 31 * down e ≤ m * up e * 1 = ltb-false (m * up e * 1) (1 * 2 ^ 31 * down e) (or-left _ _ h) in
     let w : 2147483648 ≤ m * up e / down e = le-div-iff-mul-le {k = down e} {x = 2147483648} {y = m * up e} (down-pos e) .1 (omega arith) in
     ap (λ (k : ℕ). negℤ (pos k)) (min-high (m * up e / down e) 2147483648 w)
 cut-low (fin false m e) h g = absurd (let z : m * up e * 1 < 0 * down e = ltb-true (m * up e * 1) (0 * down e) g in let y : 0 * down e ≡ 0 = zero-mul (down e) in omega arith)
@@ -84,7 +78,7 @@ cut-nan (inf true) h g = absurd (subst T g tt)
 cut-nan (inf false) h g = absurd (subst T h tt)
 cut-nan (fin true m e) h g =
     absurd (let z : m * up e * 1 + 0 * down e ≤ 0 = ltb-false 0 (m * up e * 1 + 0 * down e) g in
-    let l : 1 * 2 ^ 31 * down e ≤ m * up e * 1 = ltb-false (m * up e * 1) (1 * 2 ^ 31 * down e) (or-false _ _ h) in
+    let l : 1 * 2 ^ 31 * down e ≤ m * up e * 1 = ltb-false (m * up e * 1) (1 * 2 ^ 31 * down e) (or-left _ _ h) in
     let d : 0 < down e = down-pos e in
     omega arith)
-cut-nan (fin false m e) h g = absurd (let z : 1 * 2 ^ 31 * down e + m * up e * 1 ≤ 0 = ltb-false 0 (1 * 2 ^ 31 * down e + m * up e * 1) (or-false _ _ h) in let d : 0 < down e = down-pos e in omega arith)
+cut-nan (fin false m e) h g = absurd (let z : 1 * 2 ^ 31 * down e + m * up e * 1 ≤ 0 = ltb-false 0 (1 * 2 ^ 31 * down e + m * up e * 1) (or-left _ _ h) in let d : 0 < down e = down-pos e in omega arith)

@@ -6,16 +6,14 @@ use mathlib.Core.Logic.{_≢_}
 use mathlib.Core.List.{List}
 use borrow.Author.Tests.{eq-eqb, ne-eqb}
 use lib.Dec.{eqb}
-use lib.IntN.{ℤ, pos, negsuc}
+use lib.IntN.{ℤ}
 use lib.ListN.{length}
 use lib.Ieee.{Float}
 use lib.Ieee.Scale.{finite}
-use mir.Syntax.{w32}
-use mir.Val.{ofZ}
 use Rattle.single.specs.Single.{num}
 use Rattle.limits.specs.Refusals.{firstRefusal}
+use Rattle.parameters.specs.Model.{modelOf}
 use Rattle.parameters.specs.declared.model.Model.{Model}
-use Rattle.parameters.specs.declared.model.Model.the-variants.{Corrected}
 use Rattle.parameters.specs.declared.params.IoncapParams.{IoncapParams}
 use Rattle.ioncap.specs.Gain.{answered as workedAnswer, callRefusal, callWork, gainOf, gainNumber, gainValue, efficiencyValue, heightLeft}
 use Rattle.ioncap.specs.declared.gain.Answer.{Answer}
@@ -23,12 +21,7 @@ use Rattle.ioncap.specs.declared.gain.Gain.{Gain}
 use Rattle.ioncap.specs.declared.gain.Gain.the-variants.{Accepted, Refused}
 use Rattle.ioncap.specs.declared.gain.GainCall.{GainCall}
 use Rattle.capi.specs.Answer.{answerLength, answerBytes, answered}
-use Rattle.capi.specs.Gain.{modelOf, lengthRefusal, gainResult, gainAnswer}
-
-pub no-zero : (k : ℤ) → (ofZ w32 k ≡ 0 → ⊥) → modelOf k ≡ Corrected
-unfolding modelOf
-no-zero (pos k) h = rw (ne-eqb k 0 h)
-no-zero (negsuc k) h = refl
+use Rattle.capi.specs.Gain.{lengthRefusal, gainResult, gainAnswer}
 
 -- the call that is made is the one handed in
 pub handed : (kop kop′ model model′ : ℤ) (m : Model) (toaz : Float) (params : IoncapParams) (delta fmc height : Float) (g : Gain) → kop′ ≡ kop → model′ ≡ model → m ≡ modelOf model′

@@ -3,21 +3,15 @@ use Prim.Native.Nat.{ℕ}
 use mathlib.Core.Bool.{true, not, cond}
 use mathlib.Core.List.{List, [], _∷_}
 use lib.Dec.{eqb}
-use lib.IntN.{ℤ, pos, negsuc}
+use lib.IntN.{ℤ}
 use lib.ListN.{length}
 use lib.Ieee.{Float}
-use Rattle.parameters.specs.declared.model.Model.{Model}
-use Rattle.parameters.specs.declared.model.Model.the-variants.{Compatible, Corrected}
+use Rattle.parameters.specs.Model.{modelOf}
 use Rattle.limits.specs.Refusals.{Test, refuse, firstRefusal}
 use Rattle.limits.specs.Tests.{heightTest, inputTests}
 use Rattle.ioncap.specs.Gain.{callOutside, mhzOutside, gainOf, gainNumber, gainValue, efficiencyValue, heightLeft}
 use Rattle.ioncap.specs.declared.gain.GainCall.{GainCall}
 use Rattle.capi.specs.Answer.{answerLength, answerBytes, answered}
-
--- 0 is `Compatible`, any other number `Corrected`
-unfoldable pub modelOf : ℤ → Model
-modelOf (pos k) = cond (eqb k 0) Compatible Corrected
-modelOf (negsuc k) = Corrected
 
 -- the nine parameters are in `IoncapParams`' order
 abbrev pub callOf : ℤ → Float → Float → Float → Float → Float → Float → Float → Float → Float → Float → Float → Float → ℤ → GainCall

@@ -1,21 +1,11 @@
 // The gain entry.
 ghost use mathlib.Core.Path.{_≡_};
-ghost use Rattle.capi.specs.Gain.{modelOf, callOf, lengthRefusal, gainResult, gainAnswer};
+ghost use Rattle.capi.specs.Gain.{callOf, lengthRefusal, gainResult, gainAnswer};
 use crate::answers::ANSWER_LENGTH;
 use crate::answers::write_answer;
 use ioncap::Gain;
 use ioncap::GainCall;
 use parameters::IoncapParams;
-use parameters::Model;
-
-fn model_of(number: i32) -> Model
-    ensures { λ r. ⌜ r ≡ modelOf number ⌝ }
-{
-    match number {
-        0 => Model::Compatible,
-        _ => Model::Corrected,
-    }
-}
 
 // Of an answer that isn't 12 bytes: the height is judged before.
 fn length_refusal(height: f32) -> u32
@@ -59,7 +49,7 @@ pub extern "C" fn ioncap_gain(
         anh,
         aex,
     };
-    let model = model_of(model);
+    let model = parameters::model_of(model);
     let call = GainCall {
         kop,
         toaz,

@@ -19,8 +19,8 @@ use Rattle.gain_core.specs.Core.{upFor}
 use Rattle.table.specs.Table.{gainAt}
 use Rattle.independence.specs.Antenna.{Answer}
 use Rattle.independence.specs.Laws.{Fills}
-use Rattle.independence.specs.Contracts.{GainsStored, RowDone}
-use Rattle.independence.proofs.Loops.{row-refusal, row-start, row-step, row-stops, row-ends}
+use Rattle.independence.specs.Contracts.{RowDone}
+use Rattle.independence.proofs.Loops.{GainsStored, row-refusal, row-start, row-step, row-stops, row-ends}
 use Rattle.deck.specs.declared.card.Card.{Card}
 use Rattle.deck.specs.declared.fields.Fields.{Fields}
 use Rattle.deck.specs.Columns.{columnAt}

@@ -1,6 +1,6 @@
 -- What is known of fields that refusals 1 to 5 let pass. Assumes nothing.
 use mathlib.Core.Path.{_≡_, refl, sym, subst}
-use mathlib.Core.Bool.{Bool, true, false, not, _&&_, _||_, cond}
+use mathlib.Core.Bool.{Bool, true, false, not, _&&_, cond}
 use mathlib.Core.List.{List, [], _∷_}
 use mathlib.Core.Logic.{_≢_}
 use Prim.Native.Nat.{ℕ, zero, suc, _<_, _≤_}
@@ -12,6 +12,7 @@ use lib.ListN.{length, getD}
 use lib.Ieee.{Float, nan, le, lt, eq, neg, round}
 use borrow.Author.Tests.{leb-true, eqb-true, not-false}
 use Rattle.single.specs.Single.{num}
+use Rattle.single.proofs.Booleans.{and-left, and-right, or-left, or-right}
 use Rattle.elementary.specs.Basic.{absolute}
 use Rattle.parameters.specs.Params.{isType, paramsOf, ioninitOf}
 use Rattle.parameters.specs.declared.params.IoncapParams.{IoncapParams}
@@ -21,23 +22,6 @@ use Rattle.table.specs.Range.{isRange}
 use Rattle.independence.proofs.Verdicts.{passed}
 use Rattle.deck.specs.declared.fields.Fields.{Fields}
 use Rattle.deck.specs.Fields.{fieldsOutside, paramsFor, fieldsRefusal}
-
--- ---- the tests, one by one
-and-left : (a b : Bool) → (a && b) ≡ true → a ≡ true
-and-left true b e = refl
-and-left false b e = e
-
-and-right : (a b : Bool) → (a && b) ≡ true → b ≡ true
-and-right true b e = e
-and-right false b e = absurd (subst T (sym e) tt)
-
-or-left : (a b : Bool) → (a || b) ≡ false → a ≡ false
-or-left true b e = e
-or-left false b e = refl
-
-or-right : (a b : Bool) → (a || b) ≡ false → b ≡ false
-or-right true b e = absurd (subst T e tt)
-or-right false b e = e
 
 pub record Passed (f : Fields) : Type 0 where
   pub type : isIoncapType (f .kop) ≡ true

@@ -1,23 +1,16 @@
 -- The benchmark's call: a card run on a deck that holds a height and no counts. Definitions only.
-use Prim.Native.Nat.{ℕ, zero, suc}
+use Prim.Native.Nat.{ℕ}
 use mathlib.Core.Bool.{cond}
 use mathlib.Core.List.{List}
 use lib.Dec.{eqb}
-use lib.IntN.{ℤ, pos, negsuc}
+use lib.IntN.{ℤ}
 use lib.ListN.{length}
 use lib.Ieee.{Float}
-use Rattle.parameters.specs.declared.model.Model.{Model}
-use Rattle.parameters.specs.declared.model.Model.the-variants.{Compatible, Corrected}
+use Rattle.parameters.specs.Model.{modelOf}
 use Rattle.independence.specs.Deck.{Deck, Outcome, outcomeOn}
 use Rattle.deck.specs.declared.fields.Fields.{Fields}
 use Rattle.deck.specs.Antenna.{theAntenna}
 use Rattle.deck.specs.Run.{countLimit, cardEntry}
-
--- document 01 section 9: 0 is compatible, any other number corrected
-abbrev pub modelOf : ℤ → Model
-modelOf (pos zero) = Compatible
-modelOf (pos (suc n)) = Corrected
-modelOf (negsuc n) = Corrected
 
 abbrev pub fieldsOf : ℤ → ℤ → ℤ → Float → List Float → ℤ → Fields
 fieldsOf kop first last toaz slots model =

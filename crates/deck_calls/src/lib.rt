@@ -1,21 +1,11 @@
 // A card run on a deck through C, for the benchmark.
 ghost use mathlib.Core.Path.{_≡_};
 ghost use lib.ListN.{length};
-ghost use Rattle.deck_calls.specs.Calls.{modelOf, fieldsOf, fillNumber, filled};
+ghost use Rattle.deck_calls.specs.Calls.{fieldsOf, fillNumber, filled};
 use deck::Deck;
 use deck::Fields;
-use parameters::Model;
 
 const SLOTS: usize = 20;
-
-fn model_of(number: i32) -> Model
-    ensures { λ r. ⌜ r ≡ modelOf number ⌝ }
-{
-    match number {
-        0 => Model::Compatible,
-        _ => Model::Corrected,
-    }
-}
 
 fn slots_of(list: &[f32]) -> [f32; SLOTS]
     requires { ⌜ length (now list) ≡ 20 ⌝ }
@@ -55,7 +45,7 @@ pub extern "C" fn deck_fill(
         last,
         toaz,
         slots: slots_of(slots),
-        model: model_of(model),
+        model: parameters::model_of(model),
     };
     let empty = Deck {
         height,

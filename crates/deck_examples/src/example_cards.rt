@@ -1,12 +1,19 @@
 // The cards of the examples: dielectric 4 and conductivity 0.01.
-use crate::tables::fill;
+use crate::tables::BEFORE;
 use deck::Deck;
 use deck::Fields;
 use deck::Ran;
 use parameters::Model;
 
 // The values are slots 6 to 12.
-pub(crate) fn card(kop: i32, first: i32, last: i32, values: [f32; 7]) -> Fields {
+pub(crate) fn card_at(
+    kop: i32,
+    first: i32,
+    last: i32,
+    toaz: f32,
+    model: Model,
+    values: [f32; 7],
+) -> Fields {
     let mut slots = [0.0f32; 20];
     slots[2] = 4.0;
     slots[3] = 0.01;
@@ -19,10 +26,14 @@ pub(crate) fn card(kop: i32, first: i32, last: i32, values: [f32; 7]) -> Fields 
         kop,
         first,
         last,
-        toaz: 12.5,
+        toaz,
         slots,
-        model: Model::Corrected,
+        model,
     }
+}
+
+fn card(kop: i32, first: i32, last: i32, values: [f32; 7]) -> Fields {
+    card_at(kop, first, last, 12.5, Model::Corrected, values)
 }
 
 pub(crate) fn rhombic(first: i32, last: i32) -> Fields {
@@ -64,7 +75,7 @@ pub(crate) fn entry_card(k: usize) -> Fields {
 
 // Each entry brings the same table.
 pub(crate) fn run_entry(k: usize, deck: Deck, table: &mut [f32]) -> Ran {
-    fill(table);
+    table::fill(table, BEFORE);
     if k == MALFORMED {
         return deck::run_malformed(deck, table);
     }

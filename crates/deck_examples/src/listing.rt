@@ -2,13 +2,13 @@
 ghost use Prim.Native.Nat.{_<_};
 ghost use mathlib.Core.Path.{_≡_};
 ghost use lib.ListN.{length};
-use crate::example_cards::card;
-use crate::example_cards::monopole;
+use crate::example_cards::card_at;
 use crate::text::print;
 use crate::text::print_hundredths;
 use crate::text::print_narrow;
 use deck::Deck;
 use deck::Fields;
+use parameters::Model;
 
 // MHz, efficiency and ground gain.
 fn print_row(row: usize, mhz: u32, table: &[f32])
@@ -21,7 +21,25 @@ fn print_row(row: usize, mhz: u32, table: &[f32])
 }
 
 fn type_one() -> Fields {
-    card(1, 2, 3, [0.0, 100.0, 20.0, 0.0, 0.0, 0.0, 0.0])
+    card_at(
+        1,
+        2,
+        3,
+        0.0,
+        Model::Compatible,
+        [0.0, 100.0, 20.0, 0.0, 0.0, 0.0, 0.0],
+    )
+}
+
+fn type_two() -> Fields {
+    card_at(
+        2,
+        2,
+        3,
+        0.0,
+        Model::Compatible,
+        [-0.5, 0.0, 0.0, 0.0, 0.0, 0.0, 0.0],
+    )
 }
 
 // A card of 2 to 3 MHz.
@@ -41,14 +59,14 @@ fn print_swapped(table: &mut [f32])
     requires { ⌜ length (now table) ≡ 2760 ⌝ }
 {
     let left = print_card(1, type_one(), deck::fresh(), table);
-    print_card(2, monopole(2, 2, 3, -0.5), left, table);
+    print_card(2, type_two(), left, table);
 }
 
 pub(crate) fn print_listings(table: &mut [f32])
     requires { ⌜ length (now table) ≡ 2760 ⌝ }
 {
     print(b"Document 01's cards of types 2 and 1\n");
-    let left = print_card(2, monopole(2, 2, 3, -0.5), deck::fresh(), table);
+    let left = print_card(2, type_two(), deck::fresh(), table);
     print_card(1, type_one(), left, table);
     print(b"Swapped\n");
     print_swapped(table);

@@ -3,7 +3,6 @@ ghost use Prim.Native.Nat.{_≤_};
 use crate::example_cards::rhombic;
 use crate::tables::BEFORE;
 use crate::tables::count;
-use crate::tables::fill;
 use crate::text::print;
 use crate::text::print_hundredths;
 use crate::text::print_number;
@@ -36,13 +35,13 @@ fn print_ran(ran: Ran, table: &[f32]) {
 
 // A card of one row.
 fn print_card(deck: Deck, table: &mut [f32]) {
-    fill(table);
+    table::fill(table, BEFORE);
     let ran = deck::run_card(deck, rhombic(5, 5), table);
     print_ran(ran, table);
 }
 
 fn print_malformed(deck: Deck, table: &mut [f32]) {
-    fill(table);
+    table::fill(table, BEFORE);
     let ran = deck::run_malformed(deck, table);
     print_ran(ran, table);
 }

@@ -6,14 +6,6 @@ ghost use lib.ListN.{length};
 // What a table holds before a card.
 pub(crate) const BEFORE: f32 = 1.0;
 
-pub(crate) fn fill(table: &mut [f32]) {
-    let mut k: usize = 0;
-    while k < table.len() {
-        table[k] = BEFORE;
-        k += 1;
-    }
-}
-
 // Any NaN equals any NaN.
 pub(crate) fn same(x: f32, y: f32) -> bool {
     vectors::bits(x) == vectors::bits(y)

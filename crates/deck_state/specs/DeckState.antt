@@ -1,13 +1,11 @@
 -- Document 01 section 8: a deck's carried height and counts, what it refuses of an entry, and a refused entry's count. Definitions only.
 use Prim.Native.Nat.{ℕ, _+_}
 use mathlib.Core.Bool.{Bool, cond}
-use mathlib.Core.List.{List, [], _∷_}
+use mathlib.Core.List.{List, []}
 use lib.Dec.{leb}
 use lib.Ieee.{Float}
 use Rattle.limits.specs.Refusals.{firstRefusal}
-use Rattle.limits.specs.Tests.{heightTest}
-use Rattle.table.specs.Table.{lengthTest}
-use Rattle.independence.specs.Deck.{Deck, countTest, refusedDeck}
+use Rattle.independence.specs.Deck.{Deck, stateTests, refusedDeck}
 use Rattle.deck_state.specs.declared.Deck as D
 
 -- refusal 10 begins here
@@ -22,7 +20,7 @@ isFull d = leb countLimit (d .accepted + d .refused)
 
 -- 10, 9 and 7
 unfoldable pub stateRefusal : Deck → List Float → ℕ
-stateRefusal d t = firstRefusal (countTest countLimit d ∷ heightTest (d .height) ∷ lengthTest t ∷ [])
+stateRefusal d t = firstRefusal (stateTests countLimit d t [])
 
 -- the deck after a refusal by v; a full deck's counts stay
 unfoldable pub refusedWithin : Deck → ℕ → Deck

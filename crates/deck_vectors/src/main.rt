@@ -98,14 +98,6 @@ fn table_length(line: &[u8]) -> usize
     if n < CELLS { n } else { CELLS }
 }
 
-fn fill(table: &mut [f32], x: f32) {
-    let mut k: usize = 0;
-    while k < table.len() {
-        table[k] = x;
-        k += 1;
-    }
-}
-
 // Runs the line's entry.
 fn run_entry(line: &[u8], deck: Deck, table: &mut [f32]) -> Ran
     requires { ⌜ 830 ≤ length (now line) ⌝ }
@@ -186,7 +178,7 @@ fn replay_entry(line: &[u8], deck: Deck, table: &mut [f32]) -> Replayed
     requires { ⌜ (830 ≤ length (now line)) × (length (now table) ≡ 2760) ⌝ }
     ensures { λ r. ⌜ (r .numbers ≤ 2764) × (r .differ ≤ 2764) ⌝ }
 {
-    fill(table, BEFORE);
+    table::fill(table, BEFORE);
     let n = table_length(line);
     let answer = run_entry(line, deck, &mut table[..n]);
     let a = compare_answer(line, answer);

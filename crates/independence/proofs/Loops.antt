@@ -8,15 +8,24 @@ use native.Mathlib.Numerals.{add-one}
 use native.Mathlib.Nat.{eq-or-lt-of-le, le-of-suc-le-suc, not-suc-le-zero}
 use lib.ListN.{length, set, length-set}
 use lib.Ieee.{Float}
-use Rattle.table.specs.Table.{gainAt, efficiencyAt}
+use Rattle.table.specs.Table.{columnCount, gainAt, efficiencyAt}
 use Rattle.independence.specs.Antenna.{Antenna, Answer, heightLeft}
 use Rattle.independence.specs.Laws.{Fills, Laws}
 use Rattle.independence.specs.Filling.{firstOf, callAt, heightAt, cellsRefusal, gainsIn, rowIn, heightAfter, rowsRefusal, rowsIn, rowsOf}
-use Rattle.independence.specs.Contracts.{GainsStored, RowDone, CardDone}
+use Rattle.independence.specs.Contracts.{RowDone, CardDone}
 use Rattle.independence.proofs.Rows.{row-height}
 
--- ---- the invariant of a card's loop after n rows, with the height x. GainsStored is a row's
+-- ---- the invariants
 module _ (A : Antenna) where
+  -- The gains of a row at m MHz below d degrees: t₁, in which the ground gain stands, becomes t. Above the ground no gain depends on the incoming height h.
+  -- It is the invariant of the loop from 1 degree on and, at 91, what the loop gives.
+  pub record GainsStored (c : A .Card) (m : ℕ) (t₁ t : List Float) (d : ℕ) : Type 0 where
+    pub low : 1 ≤ d
+    pub top : d ≤ columnCount
+    pub length : length t ≡ length t₁
+    pub table : (h : Float) (t₀ : List Float) → t₁ ≡ set t₀ (gainAt m 0) (A .call c m 0 h .gain) → t ≡ gainsIn A c m h d t₀
+
+  -- a card's rows, after n of them, with the height x
   pub record CardInv (c : A .Card) (h : Float) (t₀ t : List Float) (x : Float) (n : ℕ) : Type 0 where
     pub top : n ≤ rowsOf A c
     pub length : length t ≡ length t₀

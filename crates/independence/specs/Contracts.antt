@@ -1,25 +1,16 @@
 -- What the filling of a row, the filling of a card and the run of an entry on a deck give: the forms of the contracts. Definitions only.
 use mathlib.Core.Path.{_≡_}
 use mathlib.Core.List.{List, [], _∷_}
-use Prim.Native.Nat.{ℕ, _≤_}
-use lib.ListN.{length, set}
+use Prim.Native.Nat.{ℕ}
+use lib.ListN.{length}
 use lib.Ieee.{Float}
 use Rattle.limits.specs.Refusals.{firstRefusal}
-use Rattle.limits.specs.Tests.{heightTest}
-use Rattle.table.specs.Table.{columnCount, gainAt, lengthTest}
+use Rattle.table.specs.Table.{columnCount}
 use Rattle.independence.specs.Antenna.{Antenna}
-use Rattle.independence.specs.Filling.{heightAt, cellsRefusal, gainsIn, rowIn, cardHeight, cardRefusal, rowsIn, rowsOf}
-use Rattle.independence.specs.Deck.{Deck, Entry, Outcome, countTest, malformedTest, found, outcomeOn, deckAfter}
+use Rattle.independence.specs.Filling.{heightAt, cellsRefusal, rowIn, cardHeight, cardRefusal, rowsIn, rowsOf}
+use Rattle.independence.specs.Deck.{Deck, Entry, Outcome, stateTests, malformedTest, found, outcomeOn, deckAfter}
 
 module _ (A : Antenna) where
-  -- The gains of a row at m MHz below d degrees: t₁, in which the ground gain stands, becomes t. Above the ground no gain depends on the incoming height h.
-  -- It is the invariant of the loop from 1 degree on and, at 91, what the loop gives.
-  pub record GainsStored (c : A .Card) (m : ℕ) (t₁ t : List Float) (d : ℕ) : Type 0 where
-    pub low : 1 ≤ d
-    pub top : d ≤ columnCount
-    pub length : length t ≡ length t₁
-    pub table : (h : Float) (t₀ : List Float) → t₁ ≡ set t₀ (gainAt m 0) (A .call c m 0 h .gain) → t ≡ gainsIn A c m h d t₀
-
   -- The row at m MHz of a card with the incoming height h: `refusal` (0 if none) and the height `left`; the table t becomes t′.
   -- A refused row may leave anything in the table but keeps its length.
   pub record RowDone (c : A .Card) (m : ℕ) (h : Float) (t t′ : List Float) (refusal : ℕ) (left : Float) : Type 0 where
@@ -38,10 +29,10 @@ module _ (A : Antenna) where
   module _ (limit : ℕ) where
     -- the refusals that come before the work: of a card, and of a malformed line
     unfoldable pub screened : Deck → A .Card → List Float → ℕ
-    screened d c t = firstRefusal (countTest limit d ∷ heightTest (d .height) ∷ lengthTest t ∷ found (A .inputRefusal c) ∷ [])
+    screened d c t = firstRefusal (stateTests limit d t (found (A .inputRefusal c) ∷ []))
 
     unfoldable pub screenedMalformed : Deck → List Float → ℕ
-    screenedMalformed d t = firstRefusal (countTest limit d ∷ heightTest (d .height) ∷ lengthTest t ∷ malformedTest ∷ [])
+    screenedMalformed d t = firstRefusal (stateTests limit d t (malformedTest ∷ []))
 
     -- an entry on the deck d: its table becomes t′; the verdict v and the deck d′ are returned
     pub record EntryDone (d : Deck) (e : Entry A) (t′ : List Float) (v : ℕ) (d′ : Deck) : Type 0 where

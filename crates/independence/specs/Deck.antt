@@ -43,6 +43,10 @@ malformedTest = refuse 8 true
 abbrev pub found : ℕ → Test
 found number = refuse number (not (eqb number 0))
 
+-- Order: 10, 9, 7, then the others
+abbrev pub stateTests : ℕ → Deck → List Float → List Test → List Test
+stateTests limit d t others = countTest limit d ∷ heightTest (d .height) ∷ lengthTest t ∷ others
+
 -- ---- the tests of an entry's own: 7, then 8 of a malformed line, 1 to 5 and 11 of a card; and what it leaves if it is accepted, as no malformed line is
 module _ (A : Antenna) where
   abbrev pub lineTests : Line A → Float → List Test
@@ -76,9 +80,9 @@ refusedIn (o ∷ os) = cond (eqb (o .verdict) 0) (refusedIn os) (suc (refusedIn 
 
 -- ---- an entry on a deck, and a list of entries in turn, where refusal 10 begins at `limit`
 module _ (A : Antenna) (limit : ℕ) where
-  -- Order: 10, 9, then the entry's own
+  -- the state's, then the line's
   unfoldable pub verdictOn : Deck → Entry A → ℕ
-  verdictOn d e = firstRefusal (countTest limit d ∷ heightTest (d .height) ∷ ownTests A e (d .height))
+  verdictOn d e = firstRefusal (stateTests limit d (e .table) (lineTests A (e .line) (d .height)))
 
   -- the table and the deck by the verdict
   unfoldable pub tableBy : Entry A → Float → ℕ → List Float

@@ -1,12 +1,13 @@
 -- The loop over the numbers: what is left of them decides. Assumes nothing.
 use Prim.Native.Nat.{ℕ, _+_, _*_, _<_, _≤_}
-use mathlib.Core.Path.{_≡_, refl, subst, _∙_}
-use mathlib.Core.Bool.{Bool, true, false, not}
+use mathlib.Core.Path.{_≡_, refl, sym, subst, _∙_}
+use mathlib.Core.Bool.{true, false}
 use mathlib.Core.List.{List}
 use native.Mathlib.Numerals.{add-one}
 use lib.Seq.{drop-cons}
 use lib.ListN.{length, drop, getD, drop-of-length-le}
 use lib.Dec.{T}
+use borrow.Author.Tests.{not-false}
 use lib.Ieee.{Float, nan, inf, fin, le, lt, eq, round, up, down}
 use native.Mathlib.Nat.{mul-one}
 use Rattle.single.specs.Single.{num}
@@ -25,14 +26,10 @@ module _ (l : List Float) (i : ℕ) (inv : anyOutside (drop i l) ≡ anyOutside 
   ended h = (rw (drop-of-length-le l h) (unfold anyOutside in refl)) ∙ inv
 
 -- a number that is not outside is at most 1,000 in magnitude
-holds : (b : Bool) → not b ≡ false → T b
-holds true e = tt
-holds false e = subst T e tt
-
 pub within-mag : (x : Float) → outside x ≡ false → Mag 1000 x
 unfolding outside absolute round le lt eq
 within-mag nan h = absurd (subst T h tt)
 within-mag (inf s) h = absurd (subst T h tt)
 within-mag (fin s m e) h =
-    let t : m * up e * 1 ≤ 1000 * down e = or-le (m * up e * 1) (1000 * down e) (holds (le (fin false m e) (num 1000 1)) h) in
+    let t : m * up e * 1 ≤ 1000 * down e = or-le (m * up e * 1) (1000 * down e) (subst T (sym (not-false (le (fin false m e) (num 1000 1)) h)) tt) in
     rw (mul-one (m * up e)) at t

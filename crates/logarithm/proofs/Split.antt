@@ -1,6 +1,6 @@
 -- ln's argument as m times 2 ^ e: every positive number has such an m and e, no other, and its logarithm is `lnAt` of them. Assumes nothing.
 use mathlib.Core.Path.{_≡_, refl, sym, ap, subst, _∙_}
-use mathlib.Core.Bool.{Bool, true, false, not}
+use mathlib.Core.Bool.{Bool, true, false, not, true≢false}
 use mathlib.Core.Logic.{_⊎_, inl, inr}
 use Prim.Native.Nat.{ℕ, zero, suc, _+_, _-_, _*_, _^_, _≤_, _<_}
 use native.Mathlib.Omega.{arith}
@@ -49,9 +49,6 @@ over q i c Q l h =
     round-exact binary32 false (q * 2 ^ i) (2 ^ c) q j (pow-pos c) Q (lt-of-lt-of-le (shl-lt (size q) j (size-lt q)) (pow-mono (let z : size q + j ≤ 277 = omega arith in z)))
     (mul-assoc q (2 ^ i) (2 ^ 149) ∙ ap (λ (x : ℕ). q * x) (sym (pow-add 2 i 149) ∙ ap (λ (x : ℕ). 2 ^ x) (let z : i + 149 ≡ j + c = omega arith in z) ∙ pow-add 2 j c) ∙ sym (mul-assoc q (2 ^ j) (2 ^ c)))
 
-clash : (b : Bool) → b ≡ true → b ≡ false → ⊥
-clash b h g = subst T (sym h ∙ g) tt
-
 value-by : (m : Float) (n k : ℕ) → T (positive m) → num m * k ≡ n * den m → HasValue m false n k
 value-by nan n k p e = absurd p
 value-by (inf s) n k p e = absurd p
@@ -77,7 +74,7 @@ module _ (y m : Float) (e : ℤ) (n : ℕ) (P : 0 < n) (v : HasValue y false n (
 
   -- m is below 1.4142135, in whole numbers
   below-end-of : (a c : ℕ) → 0 < c → HasValue m false a c → a * 2 ^ 23 < 11863283 * c
-  below-end-of a c C w = lt-of-not-le (λ (g : 11863283 * c ≤ a * 2 ^ 23). clash (lt m digitsEnd) (s .below) (not-lt-values m digitsEnd a c 11863283 (2 ^ 23) C (pow-pos 23) w end-value g))
+  below-end-of a c C w = lt-of-not-le (λ (g : 11863283 * c ≤ a * 2 ^ 23). true≢false (sym (s .below) ∙ not-lt-values m digitsEnd a c 11863283 (2 ^ 23) C (pow-pos 23) w end-value g))
 
   too-small : (j : ℕ) → 150 ≤ suc j → num m * 1 * 2 ^ 149 ≡ n * (den m * 2 ^ suc j) → ⊥
   too-small j h q =
@@ -177,8 +174,8 @@ module _ (n : ℕ) (d : ℤ) (t : T (fits binary32 (fin false (suc n) d))) where
     where
       go : (k : ℕ) → Picks m e N k → Picks m′ e′ N k → (m ≡ m′) × (e ≡ e′)
       go k (inl a) (inl b) = (a .1 ∙ sym (b .1), a .2 ∙ sym (b .2))
-      go k (inl a) (inr b) = absurd (clash (lt (first N k) digitsEnd) (a .0) (b .0))
-      go k (inr a) (inl b) = absurd (clash (lt (first N k) digitsEnd) (b .0) (a .0))
+      go k (inl a) (inr b) = absurd (true≢false (sym (a .0) ∙ b .0))
+      go k (inr a) (inl b) = absurd (true≢false (sym (b .0) ∙ a .0))
       go k (inr a) (inr b) = (a .1 ∙ sym (b .1), a .2 ∙ sym (b .2))
 
   -- and the logarithm is that of its parts

@@ -1,7 +1,7 @@
 -- What a lookup that is not refused knows. Assumes nothing.
 use Prim.Native.Nat.{ℕ, suc}
 use mathlib.Core.Path.{_≡_, refl}
-use mathlib.Core.Bool.{Bool, true, false, not, cond, _&&_, _||_}
+use mathlib.Core.Bool.{Bool, true, false, not, cond, _&&_}
 use mathlib.Core.List.{List, [], _∷_}
 use native.Mathlib.Omega.{arith}
 use borrow.Author.Tests.{eqb-true}
@@ -9,6 +9,7 @@ use lib.Dec.{eqb}
 use lib.IntN.{ℤ}
 use lib.ListN.{length}
 use lib.Ieee.{Float}
+use Rattle.single.proofs.Booleans.{or-left}
 use Rattle.limits.specs.Refusals.{firstRefusal}
 use Rattle.limits.specs.Tests.{outside, anyOutside}
 use Rattle.table.specs.Range.{isRange}
@@ -26,10 +27,6 @@ both : (a b : Bool) → plain a b ≡ 0 → (a ≡ true) × (b ≡ false)
 both true true e = absurd (never 1 e)
 both true false e = (refl, refl)
 both false b e = absurd (never 6 e)
-
-or-left : (a b : Bool) → (a || b) ≡ false → a ≡ false
-or-left true b e = e
-or-left false b e = refl
 
 pub accepted : (t : List Float) (fmc delta : Float) → lookupRefusal t fmc delta ≡ 0 → (length t ≡ tableLength) × (outside fmc ≡ false)
 unfolding lookupRefusal firstRefusal isTable

@@ -1,16 +1,18 @@
 -- The answers of `to_hundredths`, by the tests that led there. Assumes nothing.
 use mathlib.Core.Path.{_≡_, refl, sym, ap, _∙_}
-use mathlib.Core.Bool.{Bool, true, false, cond, _&&_, true≢false}
+use mathlib.Core.Bool.{Bool, true, false, cond, true≢false}
 use Prim.Native.Nat.{ℕ, _+_, _*_, _/_, _^_, _≤_, _<_}
 use native.Mathlib.Omega.{arith}
 use native.Mathlib.Nat.{div-lt-iff-lt-mul}
 use borrow.Author.Tests.{ltb-true, ltb-false, lt-ltb, le-ltb, eqb-true}
 use lib.Dec.{ltb, eqb}
 use lib.IntN.{pos, negℤ, _-ℤ_}
-use lib.Ieee.{Float, nan, inf, fin, binary32, up, down, lt, eq, neg, ofBits, level}
+use lib.Ieee.{Float, nan, inf, fin, binary32, up, down, lt, eq, neg, ofBits}
 use lib.Ieee.Fits.{down-pos}
 use mir.Syntax.{w64}
 use mir.Val.{SFits, toZ, ofZ}
+use Rattle.single.proofs.Booleans.{and-left}
+use Rattle.single.proofs.Positive.{level-zero}
 use Rattle.output.specs.Hundredths.{halfUp, sizeOf, hundredthsOf, signed}
 use Rattle.output.specs.declared.rounding.Hundredths.the-variants.{NotANumber, Over, Whole}
 use Rattle.output.proofs.Signs.{as-i64, negated-fits, negated-i64}
@@ -94,15 +96,6 @@ zero-is (inf s) p = absurd (true≢false (sym p))
 zero-is (fin s m e) p =
     let z : m * up e * 1 ≡ 0 * 1 * down e = eqb-true (m * up e * 1) (0 * 1 * down e) (and-left (eqb (m * up e * 1) (0 * 1 * down e)) _ p) in
     none s (m * up e) (down e) (down-pos e) (omega arith)
-  where
-    and-left : (a b : Bool) → a && b ≡ true → a ≡ true
-    and-left true b q = refl
-    and-left false true q = q
-    and-left false false q = q
-
-at-zero : (s : Bool) (a b : ℕ) → a ≡ 0 → b ≡ 0 → level s a false b ≡ true
-at-zero true a b e f = rw (e, f) refl
-at-zero false a b e f = rw (e, f) refl
 
 pub none-is : (x : Float) → lt (ofBits binary32 0) x ≡ false → lt x (ofBits binary32 0) ≡ false → eq x (ofBits binary32 0) ≡ false → NotANumber ≡ hundredthsOf x
 unfolding lt eq ofBits hundredthsOf
@@ -111,7 +104,7 @@ none-is (inf true) p q r = absurd (true≢false q)
 none-is (inf false) p q r = absurd (true≢false p)
 none-is (fin true m e) p q r =
     let z : m * up e * 1 + 0 * 1 * down e ≤ 0 = ltb-false 0 (m * up e * 1 + 0 * 1 * down e) q in
-    absurd (true≢false (sym (at-zero true (m * up e * 1) (0 * 1 * down e) (omega arith) (omega arith)) ∙ r))
+    absurd (true≢false (sym (level-zero true (m * up e * 1) (0 * 1 * down e) (omega arith) (omega arith)) ∙ r))
 none-is (fin false m e) p q r =
     let z : m * up e * 1 ≤ 0 * 1 * down e = ltb-false (0 * 1 * down e) (m * up e * 1) p in
-    absurd (true≢false (sym (at-zero false (m * up e * 1) (0 * 1 * down e) (omega arith) (omega arith)) ∙ r))
+    absurd (true≢false (sym (level-zero false (m * up e * 1) (0 * 1 * down e) (omega arith) (omega arith)) ∙ r))

@@ -3,7 +3,7 @@ use mathlib.Core.Path.{_≡_, sym, ap, subst, _∙_}
 use mathlib.Core.Bool.{Bool, true, false, not, _&&_, true≢false}
 use Prim.Native.Nat.{ℕ, zero, suc, _+_, _-_, _*_, _/_, _%_, _^_, _≤_, _<_}
 use native.Mathlib.Omega.{arith}
-use native.Mathlib.Nat.{le-div-iff-mul-le, le-refl, lt-suc-self, suc-mul, mul-one, one-mul, mul-assoc, mul-comm, mul-left-comm, mul-right-comm, mul-pos, mul-lt-mul-of-pos-right, lt-of-lt-of-le, le-trans, le-of-eq, lt-of-mul-lt-mul-right, lt-of-not-le, not-le-of-lt, div-lt-iff-lt-mul, div-div-eq-div-mul, add-div-right, min-eq-left}
+use native.Mathlib.Nat.{le-div-iff-mul-le, le-refl, lt-suc-self, suc-mul, mul-one, one-mul, mul-assoc, mul-comm, mul-left-comm, mul-right-comm, mul-pos, mul-lt-mul-of-pos-right, lt-of-lt-of-le, le-trans, le-of-eq, lt-of-mul-lt-mul-right, lt-of-not-le, not-le-of-lt, div-lt-iff-lt-mul, div-div-eq-div-mul, add-div-right, min-eq-left, mul-mul-mul-comm}
 use borrow.Author.Tests.{ltb-true}
 use lib.Dec.{T, leb, ltb, eqb, lit<, lit≤, leb→le, ltb→lt, lt→ltb}
 use lib.IntN.{ℤ, pos, negsuc}
@@ -26,18 +26,15 @@ within : (a : ℕ) → 2 ^ suc a ≤ 2 ^ 149 → suc a ≤ 149
 within a h = let z : suc a < 150 = lt-of-not-le (λ (g : 150 ≤ suc a). not-le-of-lt (lit< {m = 2 ^ 149} {n = 2 ^ 150} tt) (le-trans (pow-mono g) h)) in omega arith
 
 -- ---- 200 times it
-swap : (a b c d : ℕ) → a * b * (c * d) ≡ a * c * (b * d)
-swap a b c d = simp (mul-assoc, mul-left-comm)
-
 exact : (m : ℕ) (e : ℤ) → suc m < 2 ^ 24 → down e ≤ 2 ^ 149 → suc m * up e < 2 ^ 56 * down e
     → HasValue (round binary64 false (suc m * up e * (25 * 2 ^ 3)) (down e * 1)) false (suc m * up e * (25 * 2 ^ 3)) (down e * 1)
 exact m (pos a) M D h =
     let n = suc m in
     let q : n * 25 < 2 ^ 53 = omega arith in
     let is : n * 2 ^ a * 200 * 2 ^ 1074 ≡ n * 25 * 2 ^ (a + 1077) * (1 * 1) =
-    mul-assoc (n * 2 ^ a) 200 (2 ^ 1074) ∙ swap n (2 ^ a) 25 (2 ^ 1077) ∙ ap (λ (x : ℕ). n * 25 * x) (sym (pow-add 2 a 1077)) ∙ sym (mul-one (n * 25 * 2 ^ (a + 1077))) in
+    mul-assoc (n * 2 ^ a) 200 (2 ^ 1074) ∙ mul-mul-mul-comm n (2 ^ a) 25 (2 ^ 1077) ∙ ap (λ (x : ℕ). n * 25 * x) (sym (pow-add 2 a 1077)) ∙ sym (mul-one (n * 25 * 2 ^ (a + 1077))) in
     let top : n * 25 * 2 ^ (a + 1077) < 2 ^ 2098 =
-    subst (λ (x : ℕ). x < 2 ^ 2098) (swap n (2 ^ a) 25 (2 ^ 1077) ∙ ap (λ (x : ℕ). n * 25 * x) (sym (pow-add 2 a 1077)))
+    subst (λ (x : ℕ). x < 2 ^ 2098) (mul-mul-mul-comm n (2 ^ a) 25 (2 ^ 1077) ∙ ap (λ (x : ℕ). n * 25 * x) (sym (pow-add 2 a 1077)))
     (lt-of-lt-of-le (mul-lt-mul-of-pos-right h (lit< {m = 0} {n = 25 * 2 ^ 1077} tt)) (let z : 2 ^ 56 * 1 * (25 * 2 ^ 1077) ≤ 2 ^ 2098 = lit≤ tt in z)) in
     round-exact binary64 false (n * 2 ^ a * 200) (1 * 1) (n * 25) (a + 1077) (lit< tt) q top is
 exact m (negsuc a) M D h =
@@ -47,7 +44,7 @@ exact m (negsuc a) M D h =
     let back : j + suc a ≡ 1077 = omega arith in
     let q : n * 25 < 2 ^ 53 = omega arith in
     let is : n * 1 * 200 * 2 ^ 1074 ≡ n * 25 * 2 ^ j * (2 ^ suc a * 1) =
-    mul-assoc (n * 1) 200 (2 ^ 1074) ∙ swap n 1 25 (2 ^ 1077) ∙ ap (λ (x : ℕ). n * 25 * x) (one-mul (2 ^ 1077) ∙ ap (λ (x : ℕ). 2 ^ x) (sym back) ∙ pow-add 2 j (suc a) ∙ ap (λ (x : ℕ). 2 ^ j * x) (sym (mul-one (2 ^ suc a)))) ∙ sym (mul-assoc (n * 25) (2 ^ j) (2 ^ suc a * 1)) in
+    mul-assoc (n * 1) 200 (2 ^ 1074) ∙ mul-mul-mul-comm n 1 25 (2 ^ 1077) ∙ ap (λ (x : ℕ). n * 25 * x) (one-mul (2 ^ 1077) ∙ ap (λ (x : ℕ). 2 ^ x) (sym back) ∙ pow-add 2 j (suc a) ∙ ap (λ (x : ℕ). 2 ^ j * x) (sym (mul-one (2 ^ suc a)))) ∙ sym (mul-assoc (n * 25) (2 ^ j) (2 ^ suc a * 1)) in
     let top : n * 25 * 2 ^ j < 2 ^ 2098 = lt-of-lt-of-le (shl-lt 53 j q) (pow-mono (let z : 53 + j ≤ 2098 = omega arith in z)) in
     round-exact binary64 false (n * 1 * 200) (2 ^ suc a * 1) (n * 25) j (mul-pos (pow-pos (suc a)) (lit< tt)) q top is
 

@@ -11,6 +11,7 @@ use lib.IntN.{ℤ, pos, negℤ, natAbs}
 use lib.ListN.{length, drop, getD, length-drop}
 use mir.Syntax.{w64}
 use mir.Val.{SFits}
+use Rattle.single.proofs.Booleans.{and-right}
 use Rattle.output.specs.declared.reading.Signed.{Signed}
 use Rattle.output.specs.declared.reading.Signed.the-variants.{Read, Unread}
 use Rattle.output.specs.declared.reading.Integer.the-variants.{Number}
@@ -29,11 +30,6 @@ grows Unread a b h p = tt
 
 wider : (r : Signed) (a b : ℕ) → a ≤ b → Below r (10 ^ a) → Below r (10 ^ b)
 wider r a b h = grows r (10 ^ a) (10 ^ b) (pow-le-pow-right (zero-lt-suc 9) h)
-
-and-right : (a b : Bool) → a && b ≡ true → b ≡ true
-and-right true b e = e
-and-right false true e = refl
-and-right false false e = e
 
 read-below : (minus : Bool) (n : ℕ) (l : List ℕ) → Below (readOn minus n l) ((n + 1) * 10 ^ length l)
 unfolding readOn

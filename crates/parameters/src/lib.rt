@@ -15,5 +15,6 @@ pub use length::read_length;
 pub use model::Fixes;
 pub use model::Model;
 pub use model::curtain_elevation_threshold;
+pub use model::model_of;
 pub use params::IoncapParams;
 pub use params::ioninit;

@@ -1,6 +1,6 @@
 // Which of the original's behaviours is reproduced.
 ghost use mathlib.Core.Path.{_≡_};
-ghost use Rattle.parameters.specs.Model.{curtainElevationThreshold};
+ghost use Rattle.parameters.specs.Model.{modelOf, curtainElevationThreshold};
 
 // The defects that a measurement corrects, of which the curtain's is the only one here.
 pub struct Fixes {
@@ -11,6 +11,16 @@ pub enum Model {
     Compatible,
     Corrected,
     Measuring(Fixes),
+}
+
+// By its number in C's calls: 0 is compatible, any other corrected.
+pub fn model_of(number: i32) -> Model
+    ensures { λ r. ⌜ r ≡ modelOf number ⌝ }
+{
+    match number {
+        0 => Model::Compatible,
+        _ => Model::Corrected,
+    }
 }
 
 // How near to the vertical, in radians, the curtain takes the floor.

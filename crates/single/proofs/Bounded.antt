@@ -3,7 +3,7 @@ use mathlib.Core.Path.{_≡_, refl, sym, ap, subst, _∙_}
 use mathlib.Core.Bool.{Bool, true, false, cond}
 use Prim.Native.Nat.{ℕ, zero, suc, _+_, _*_, _^_, _≤_, _<_}
 use native.Mathlib.Omega.{arith}
-use native.Mathlib.Nat.{mul-one, one-mul, zero-mul, mul-assoc, mul-comm, mul-left-comm, mul-right-comm, mul-pos, mul-le-mul, le-refl, le-trans, le-of-eq, zero-lt-suc, lt-of-lt-of-le, not-le-of-lt}
+use native.Mathlib.Nat.{mul-one, one-mul, zero-mul, mul-assoc, mul-comm, mul-right-comm, mul-mul-mul-comm, mul-pos, mul-le-mul, le-refl, le-trans, le-of-eq, zero-lt-suc, lt-of-lt-of-le, not-le-of-lt}
 use borrow.Author.Tests.{ne-eqb}
 use lib.Dec.{T, ltb, eqb, lit≤}
 use lib.IntN.{pos}
@@ -14,6 +14,7 @@ use lib.Ieee.Order.{round-mono}
 use lib.Ieee.Scale.{finite}
 use Rattle.single.specs.Single.{isNegative}
 use Rattle.single.proofs.Magnitude.{Mag, Pow, or-le, round-mag}
+use Rattle.single.proofs.Sign.{odd-sign}
 use Rattle.single.proofs.Value.{round-neg}
 
 -- x is no NaN, and at least b in magnitude
@@ -21,9 +22,6 @@ abbrev pub AtLeast : ℕ → Float → Type 0
 AtLeast b nan = ⊥
 AtLeast b (inf s) = Unit
 AtLeast b (fin s m e) = b * down e ≤ m * up e
-
-cross : (a b c d : ℕ) → a * b * (c * d) ≡ a * c * (b * d)
-cross a b c d = simp (mul-assoc, mul-left-comm)
 
 -- p / e is at most a, q / d at least b, so p / e over q / d is at most k
 over : (p q d e a b k : ℕ) → p ≤ a * e → b * d ≤ q → a ≤ k * b → p * d ≤ k * (q * e)
@@ -61,11 +59,6 @@ least-le (inf t) k s h = tt
 least-le (fin true m e) k s h = absurd (subst T s tt)
 least-le (fin false m e) k s h = subst (λ (x : ℕ). 2 ^ k * down e ≤ x) (mul-one (m * up e)) (subst (λ (x : ℕ). x * down e ≤ m * up e * 1) (one-mul (2 ^ k)) (or-le (1 * 2 ^ k * down e) (m * up e * 1) h))
 
-odd-minus : (d : ℕ) (s : Bool) (q k l : ℕ) → isNegative (odd d s q k l) ≡ s
-unfolding odd
-odd-minus d s zero k l = refl
-odd-minus d s (suc q) k l = refl
-
 pub round-sign : (s : Bool) (a b : ℕ) → isNegative (round binary32 s a b) ≡ s
 round-sign s a b = ap isNegative (round-is binary32 s a b) ∙ units-minus _ _
   where
@@ -73,7 +66,7 @@ round-sign s a b = ap isNegative (round-is binary32 s a b) ∙ units-minus _ _
     units-minus q k = unfold units in go (ltb (q * 2 ^ k) (2 ^ (149 + 128)))
       where
         go : (t : Bool) → isNegative (cond t (odd 25 s q k 149) (inf s)) ≡ s
-        go true = odd-minus 25 s q k 149
+        go true = odd-sign 25 s q k 149
         go false = refl
 
 least-plus : (a b k : ℕ) → Pow k → 0 < b → 2 ^ k * b ≤ a → AtLeast (2 ^ k) (round binary32 false a b)
@@ -164,7 +157,7 @@ round-within s true a b c d B D h f =
     (of-neg (round binary32 false c d) (round binary32 false a b) (plus-within a b c d B D h (neg-finite (round binary32 false c d) (subst (λ (y : Float). T (finite y)) (sym (round-neg false c d)) f)))))
 
 swap : (a b c d : ℕ) → a * b * (c * d) ≡ a * d * (b * c)
-swap a b c d = ap (λ (x : ℕ). a * b * x) (mul-comm c d) ∙ cross a b d c
+swap a b c d = ap (λ (x : ℕ). a * b * x) (mul-comm c d) ∙ mul-mul-mul-comm a b d c
 
 -- products and quotients of numbers within others are within theirs, where those are finite
 pub mul-within : (x y x′ y′ : Float) → Within y x → Within y′ x′ → T (finite (mul binary32 y y′)) → Within (mul binary32 y y′) (mul binary32 x x′)
@@ -179,7 +172,7 @@ mul-within (fin s m e) (fin t n d) nan (fin t′ n′ d′) w w′ f = absurd w�
 mul-within (fin s m e) (fin t n d) (inf s′) (fin t′ n′ d′) w w′ f = absurd w′
 mul-within (fin s m e) (fin t n d) (fin s′ m′ e′) (fin t′ n′ d′) w w′ f =
     round-within (unlike s s′) (unlike t t′) (m * up e * (m′ * up e′)) (down e * down e′) (n * up d * (n′ * up d′)) (down d * down d′) (mul-pos (down-pos e) (down-pos e′)) (mul-pos (down-pos d) (down-pos d′))
-    (le-trans (le-of-eq (cross (m * up e) (m′ * up e′) (down d) (down d′))) (le-trans (mul-le-mul w w′) (le-of-eq (cross (n * up d) (down e) (n′ * up d′) (down e′)))))
+    (le-trans (le-of-eq (mul-mul-mul-comm (m * up e) (m′ * up e′) (down d) (down d′))) (le-trans (mul-le-mul w w′) (le-of-eq (mul-mul-mul-comm (n * up d) (down e) (n′ * up d′) (down e′)))))
     f
 
 pub div-within : (x y z : Float) → Within y x → T (finite z) → T (finite (div binary32 y z)) → Within (div binary32 y z) (div binary32 x z)

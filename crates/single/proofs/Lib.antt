@@ -1,3 +1,4 @@
+pub mod Booleans
 pub mod Value
 pub mod Sign
 pub mod Order

@@ -3,7 +3,7 @@ use mathlib.Core.Path.{_≡_, sym, ap, subst, _∙_}
 use mathlib.Core.Bool.{Bool, true, false, cond, _&&_, _||_, Bool·beq}
 use Prim.Native.Nat.{ℕ, zero, suc, _+_, _-_, _*_, _<_, _≤_, _^_}
 use native.Mathlib.Omega.{arith}
-use native.Mathlib.Nat.{le-trans, le-of-eq, le-refl, mul-le-mul, mul-comm, mul-assoc, mul-left-comm, mul-pos, one-mul, mul-one, add-mul}
+use native.Mathlib.Nat.{le-trans, le-of-eq, le-refl, mul-le-mul, mul-comm, mul-assoc, mul-pos, one-mul, mul-one, add-mul, mul-mul-mul-comm}
 use lib.Dec.{T, ltb, eqb, ltb→lt, lt→ltb, eqb→eq, lit≤}
 use lib.IntN.{ℤ, pos}
 use lib.Ieee.{Float, nan, inf, fin, binary32, up, down, odd, units, round, unlike, neg, sum, add, sub, mul, lt, eq, le}
@@ -51,10 +51,6 @@ round-mag s a b k p B h =
     let l : T (le (round binary32 false a b) (fin false 1 (pos k))) = subst (λ (y : Float). T (le (round binary32 false a b) y)) p (round-mono binary32 a b (2 ^ k) 1 B (lit≤ tt) (subst (λ (z : ℕ). z ≤ 2 ^ k * b) (sym (mul-one a)) h)) in
     subst (λ (y : Float). Mag (2 ^ k) y) (sym (round-is binary32 s a b)) (units-mag s _ _ k (subst (λ (y : Float). T (le y (fin false 1 (pos k)))) (round-is binary32 false a b) l))
 
--- a * (b * (c * d)) and the like
-cross : (a b c d : ℕ) → a * b * (c * d) ≡ a * c * (b * d)
-cross a b c d = simp (mul-assoc, mul-left-comm)
-
 pub mul-mag : (x y : Float) (a b k : ℕ) → Pow k → Mag a x → Mag b y → a * b ≤ 2 ^ k → Mag (2 ^ k) (mul binary32 x y)
 unfolding mul
 mul-mag nan y a b k p f g h = absurd f
@@ -63,7 +59,7 @@ mul-mag (fin s m e) nan a b k p f g h = absurd g
 mul-mag (fin s m e) (inf t) a b k p f g h = absurd g
 mul-mag (fin s m e) (fin t n d) a b k p f g h =
     round-mag (unlike s t) (m * up e * (n * up d)) (down e * down d) k p (mul-pos (down-pos e) (down-pos d))
-    (le-trans (mul-le-mul f g) (le-trans (le-of-eq (cross a (down e) b (down d))) (mul-le-mul h (le-refl (down e * down d)))))
+    (le-trans (mul-le-mul f g) (le-trans (le-of-eq (mul-mul-mul-comm a (down e) b (down d))) (mul-le-mul h (le-refl (down e * down d)))))
 
 both : (c a b p q r : ℕ) → p ≤ a * c → q ≤ b * c → a + b ≤ r → p + q ≤ r * c
 both c a b p q r f g h = le-trans (let e : a * c + b * c ≡ (a + b) * c = sym (add-mul a b c) in omega (arith, e)) (mul-le-mul h (le-refl c))

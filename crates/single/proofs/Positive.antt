@@ -144,10 +144,10 @@ module _ (y : Float) (f : T (fits binary32 y)) (p : lt (ofBits binary32 0) y ≡
 none : (a : ℕ) → 0 * a * 2 ^ 149 ≡ 0
 none a = ap (λ (x : ℕ). x * 2 ^ 149) (zero-mul a) ∙ zero-mul (2 ^ 149)
 
-above : (m : ℕ) (e : ℤ) → 0 < suc m * up e * 1
-above m e = mul-pos (mul-pos (zero-lt-suc m) (up-pos e)) (zero-lt-suc 0)
+pub scaled-pos : (m : ℕ) (e : ℤ) → 0 < suc m * up e * 1
+scaled-pos m e = mul-pos (mul-pos (zero-lt-suc m) (up-pos e)) (zero-lt-suc 0)
 
-level-zero : (s : Bool) (a b : ℕ) → a ≡ 0 → b ≡ 0 → level s a false b ≡ true
+pub level-zero : (s : Bool) (a b : ℕ) → a ≡ 0 → b ≡ 0 → level s a false b ≡ true
 level-zero true a b p q = ap (λ (x : ℕ). level true x false b) p ∙ ap (λ (x : ℕ). level true 0 false x) q
 level-zero false a b p q = ap (λ (x : ℕ). level false x false b) p ∙ ap (λ (x : ℕ). level false 0 false x) q
 
@@ -178,7 +178,7 @@ module _ (z : Float) (f : ℕ → Float) where
   on-zero nan h = absurd (subst T (sym h) tt)
   on-zero (inf s) h = absurd (subst T (sym h) tt)
   on-zero (fin s zero e) h = refl
-  on-zero (fin s (suc m) e) h = absurd (lt-irrefl 0 (subst (λ (x : ℕ). 0 < x) (eqb→eq (suc m * up e * 1) (0 * down e) (and-l (eqb (suc m * up e * 1) (0 * down e)) (Bool·beq s false || eqb (suc m * up e * 1) 0) (subst T (sym h) tt)) ∙ zero-mul (down e)) (above m e)))
+  on-zero (fin s (suc m) e) h = absurd (lt-irrefl 0 (subst (λ (x : ℕ). 0 < x) (eqb→eq (suc m * up e * 1) (0 * down e) (and-l (eqb (suc m * up e * 1) (0 * down e)) (Bool·beq s false || eqb (suc m * up e * 1) 0) (subst T (sym h) tt)) ∙ zero-mul (down e)) (scaled-pos m e)))
 
   -- what code writes for NaN is 0.0 / 0.0
   pub on-other : (y : Float) → lt (ofBits binary32 0) y ≡ false → eq y (ofBits binary32 0) ≡ false → div binary32 (ofBits binary32 0) (ofBits binary32 0) ≡ onPositive z f y
@@ -188,4 +188,4 @@ module _ (z : Float) (f : ℕ → Float) where
   on-other (inf false) g h = absurd (subst T g tt)
   on-other (fin s zero e) g h = absurd (subst T (sym (level-zero s (0 * up e * 1) (0 * down e) (ap (λ (x : ℕ). x * 1) (zero-mul (up e))) (zero-mul (down e))) ∙ h) tt)
   on-other (fin true (suc m) e) g h = refl
-  on-other (fin false (suc m) e) g h = absurd (not-le-of-lt (above m e) (subst (λ (x : ℕ). suc m * up e * 1 ≤ x) (zero-mul (down e)) (ltb-false (0 * down e) (suc m * up e * 1) g)))
+  on-other (fin false (suc m) e) g h = absurd (not-le-of-lt (scaled-pos m e) (subst (λ (x : ℕ). suc m * up e * 1 ≤ x) (zero-mul (down e)) (ltb-false (0 * down e) (suc m * up e * 1) g)))

@@ -11,7 +11,7 @@ use lib.Ieee.Bits.{ofBits-toBits, nanBits-above, nanBits-is}
 use lib.Ieee.Compare.{differs-from-itself}
 use Rattle.single.specs.Single.{isNegative}
 
-odd-sign : (d : ℕ) (s : Bool) (q k l : ℕ) → isNegative (odd d s q k l) ≡ s
+pub odd-sign : (d : ℕ) (s : Bool) (q k l : ℕ) → isNegative (odd d s q k l) ≡ s
 unfolding odd
 odd-sign d s zero k l = refl
 odd-sign d s (suc q) k l = refl

@@ -32,6 +32,10 @@ efficiencyAt m = gainCount + (m - 1)
 unfoldable pub isTable : List Float → Bool
 isTable t = eqb (length t) tableLength
 
+-- a list of this length with x everywhere
+unfoldable pub filledWith : List Float → Float → List Float
+filledWith t x = replicate (length t) x
+
 unfoldable pub cleared : List Float
 cleared = replicate tableLength (num 0 1)
 

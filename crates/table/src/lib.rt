@@ -2,7 +2,7 @@
 // efficiencies.
 ghost use mathlib.Core.Path.{_≡_};
 ghost use Rattle.table.specs.Range.{isRange};
-ghost use Rattle.table.specs.Table.{isTable, refusedTable};
+ghost use Rattle.table.specs.Table.{isTable, filledWith, refusedTable};
 
 pub const ROWS: usize = 30;
 
@@ -22,6 +22,17 @@ pub fn is_table(table: &[f32]) -> bool
     table.len() == TABLE_LENGTH
 }
 
+// Every number becomes x.
+pub fn fill(table: &mut [f32], x: f32)
+    ensures { λ _. ⌜ now (table .exit) ≡ filledWith (now (table .entry)) x ⌝ }
+{
+    let mut i: usize = 0;
+    while i < table.len() {
+        table[i] = x;
+        i += 1;
+    }
+}
+
 // A refused card's table: all zeros, or untouched if its length is wrong.
 pub fn clear_refused(table: &mut [f32])
     ensures { λ _. ⌜ now (table .exit) ≡ refusedTable (now (table .entry)) ⌝ }
@@ -29,11 +40,7 @@ pub fn clear_refused(table: &mut [f32])
     if table.len() != TABLE_LENGTH {
         return;
     }
-    let mut i: usize = 0;
-    while i < table.len() {
-        table[i] = 0.0;
-        i += 1;
-    }
+    fill(table, 0.0);
 }
 
 // 1 to 30 MHz, the first not above the last.

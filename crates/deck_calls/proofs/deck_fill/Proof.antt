@@ -13,7 +13,8 @@ use Rattle.independence.specs.Deck.{Deck}
 use Rattle.deck.specs.declared.fields.Fields.{Fields}
 use Rattle.deck.specs.Antenna.{theAntenna}
 use Rattle.deck.specs.Run.{countLimit, cardEntry}
-use Rattle.deck_calls.specs.Calls.{modelOf, fieldsOf, deckAt, outcomeAt, fillNumber, filled}
+use Rattle.parameters.specs.Model.{modelOf}
+use Rattle.deck_calls.specs.Calls.{fieldsOf, deckAt, outcomeAt, fillNumber, filled}
 use Rattle.deck_calls.proofs.deck_fill.Statement.{statement}
 use Rattle.deck_calls.proofs.deck_fill.Tie as tie
 
