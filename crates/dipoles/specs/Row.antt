@@ -15,10 +15,14 @@ use Rattle.integrals.specs.Pair.{integralPair}
 abbrev pub sin2kl : Float
 sin2kl = num 1 1
 
+-- the Rust's closure `cot`
+unfoldable pub cotangent : Float → Float
+cotangent x = num 1 1 ⊘ tangent x
+
 -- xr, from the integrals at fac * 4 and at fac * 2
 unfoldable pub resistance : Float → Integrals → Integrals → Float
 resistance fac at2kl atkl =
-    let g = num 1 1 ⊘ tangent fac in
+    let g = cotangent fac in
     let cin-kl = num 577 1000 ⊞ logarithm (num 2 1 ⊠ fac) ⊟ atkl .ci in
     let cin-2kl = num 577 1000 ⊞ logarithm (num 4 1 ⊠ fac) ⊟ at2kl .ci in
     num 30 1 ⊠ ((num 1 1 ⊟ g ⊠ g) ⊠ cin-2kl ⊞ num 4 1 ⊠ g ⊠ g ⊠ cin-kl ⊞ num 2 1 ⊠ g ⊠ (at2kl .si ⊟ num 2 1 ⊠ atkl .si)) ⊘ sin2kl

@@ -1,6 +1,6 @@
 // What holds for a whole row, whatever the azimuth: the phases and the radiation resistance.
 ghost use mathlib.Core.Path.{_≡_};
-ghost use Rattle.dipoles.specs.Row.{resistance, dipoleRow};
+ghost use Rattle.dipoles.specs.Row.{cotangent, resistance, dipoleRow};
 use integrals::IntegralPair;
 use integrals::Integrals;
 use integrals::Turns;
@@ -20,11 +20,17 @@ pub enum DipoleRow {
     Unsettled,
 }
 
+fn cot(x: f32) -> f32
+    ensures { λ r. ⌜ r ≡ cotangent x ⌝ }
+{
+    1.0 / elementary::tan(x)
+}
+
 // `xr`, from the integrals at `fac * 4` and at `fac * 2`.
 fn resistance_of(fac: f32, at2kl: Integrals, atkl: Integrals) -> f32
     ensures { λ r. ⌜ r ≡ resistance fac at2kl atkl ⌝ }
 {
-    let g = 1.0 / elementary::tan(fac);
+    let g = cot(fac);
     let cin_kl = 0.577 + elementary::ln(2.0 * fac) - atkl.ci;
     let cin_2kl = 0.577 + elementary::ln(4.0 * fac) - at2kl.ci;
     let sin2kl = 1.0;

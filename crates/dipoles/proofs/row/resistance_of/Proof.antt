@@ -4,8 +4,8 @@ use borrow.Author.Needs.{needs}
 use Rattle.dipoles.proofs.row.resistance_of.Statement.{statement}
 use Rattle.dipoles.proofs.row.resistance_of.Tie as tie
 
-tan-requires : tie.Need-tan-requires
-tan-requires c κs = search needs
+cot-requires : tie.Need-cot-requires
+cot-requires c κs = search needs
 
 ln-requires : tie.Need-ln-requires
 ln-requires c κs = search needs
@@ -16,10 +16,10 @@ ln-requires-2 c κs = search needs
 returns : tie.Need-returns
 unfolding resistance round ofBits
 returns c = rw (
-  ← c .before .before .before .before .before .before .tan .ensures,
+  ← c .before .before .before .before .before .before .cot .ensures,
   ← c .before .before .before .before .before .ln .ensures,
   ← c .before .before .before .ln2 .ensures,
 )
 
 pub resistance-of-spec : {M : Type 1} → statement M
-resistance-of-spec = tie.close (tie.spec tan-requires ln-requires ln-requires-2 returns)
+resistance-of-spec = tie.close (tie.spec cot-requires ln-requires ln-requires-2 returns)
