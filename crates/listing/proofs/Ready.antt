@@ -8,6 +8,7 @@ use borrow.Author.Tests.{eq-eqb, ne-eqb, eqb-true, leb-true, leb-false, le-leb, 
 use lib.Dec.{eqb, leb}
 use lib.Ieee.{Float}
 use lib.ListN.{length}
+use Rattle.single.proofs.Booleans.{and-left, and-right}
 use Rattle.table.specs.Table.{isTable}
 use Rattle.listing.specs.Ready.{Ready}
 use Rattle.listing.specs.Session.{isReady}
@@ -15,10 +16,6 @@ use Rattle.listing.specs.Session.{isReady}
 and-false : (b : Bool) → b && false ≡ false
 and-false true = refl
 and-false false = refl
-
-and-parts : (a b : Bool) → a && b ≡ true → (a ≡ true) × (b ≡ true)
-and-parts true b e = (refl, e)
-and-parts false b e = (e, absurd (let w : _≡_ {A = ℕ} 0 1 = cc in omega arith))
 
 module _ (line : List ℕ) (table : List Float) (out : List ℕ) (at : ℕ) where
   pub short-line : (length line ≡ 120 → ⊥) → false ≡ isReady line table out at
@@ -46,9 +43,12 @@ module _ (line : List ℕ) (table : List Float) (out : List ℕ) (at : ℕ) wher
   pub ready : isReady line table out at ≡ true → Ready line table out at
   unfolding isReady isTable
   ready e =
-      let p = and-parts (eqb (length line) 120 && isTable table) (leb (at + 569) (length out)) e in
-      let q = and-parts (eqb (length line) 120) (isTable table) (p .0) in
-      record { line-length = eqb-true (length line) 120 (q .0); table-length = eqb-true (length table) 2760 (q .1); room = leb-true (at + 569) (length out) (p .1) }
+      let p = and-left (eqb (length line) 120 && isTable table) (leb (at + 569) (length out)) e in
+      record {
+        line-length = eqb-true (length line) 120 (and-left (eqb (length line) 120) (isTable table) p);
+        table-length = eqb-true (length table) 2760 (and-right (eqb (length line) 120) (isTable table) p);
+        room = leb-true (at + 569) (length out) (and-right (eqb (length line) 120 && isTable table) (leb (at + 569) (length out)) e);
+      }
 
 -- as a test of the code tells it
 pub true-of : (b : Bool) → not b ≡ false → b ≡ true
