@@ -4,15 +4,6 @@ use borrow.Author.Needs.{needs}
 use Rattle.arctangent.proofs.arctangent_of.Statement.{statement}
 use Rattle.arctangent.proofs.arctangent_of.Tie as tie
 
-from-base-requires : tie.Need-from-base-requires
-from-base-requires c κs = search needs
-
-from-base-requires-2 : tie.Need-from-base-requires-2
-from-base-requires-2 c κs = search needs
-
-from-base-requires-3 : tie.Need-from-base-requires-3
-from-base-requires-3 c κs = search needs
-
 returns : tie.Need-returns
 unfolding arctangentOf round ofBits
 returns c = rw (c .before .if1 .taken) (c .from-base .ensures)
@@ -28,10 +19,4 @@ returns-3 c = rw (c .before .before .if1 .left, c .before .if2 .left) (c .from-b
 pub arctangent-of-spec : {M : Type 1} → statement M
 arctangent-of-spec =
     tie.close
-    (tie.spec
-    from-base-requires
-    from-base-requires-2
-    from-base-requires-3
-    returns
-    returns-2
-    returns-3)
+    (tie.spec (λ c κs. search needs) (λ c κs. search needs) (λ c κs. search needs) returns returns-2 returns-3)

@@ -4,15 +4,6 @@ use borrow.Author.Needs.{needs}
 use Rattle.arctangent.proofs.asin.Statement.{statement}
 use Rattle.arctangent.proofs.asin.Tie as tie
 
-abs-requires : tie.Need-abs-requires
-abs-requires c κs = search needs
-
-sqrt-requires : tie.Need-sqrt-requires
-sqrt-requires c κs = search needs
-
-atan-requires : tie.Need-atan-requires
-atan-requires c κs = search needs
-
 returns : tie.Need-returns
 unfolding arcsine round ofBits div
 returns c = rw (← c .before .abs .ensures, c .if1 .taken)
@@ -22,4 +13,6 @@ unfolding arcsine round ofBits
 returns-2 c = rw (← c .before .before .before .abs .ensures, c .before .before .if1 .left, ← c .before .sqrt .ensures) (c .atan .ensures)
 
 pub asin-spec : {M : Type 1} → statement M
-asin-spec = tie.close (tie.spec abs-requires sqrt-requires atan-requires returns returns-2)
+asin-spec =
+    tie.close
+    (tie.spec (λ c κs. search needs) (λ c κs. search needs) (λ c κs. search needs) returns returns-2)

@@ -6,15 +6,6 @@ use borrow.Author.Needs.{needs}
 use Rattle.arctangent.proofs.atan.Statement.{statement}
 use Rattle.arctangent.proofs.atan.Tie as tie
 
-is-negative-requires : tie.Need-is-negative-requires
-is-negative-requires c κs = search needs
-
-arctangent-of-requires : tie.Need-arctangent-of-requires
-arctangent-of-requires c κs = search needs
-
-arctangent-of-requires-2 : tie.Need-arctangent-of-requires-2
-arctangent-of-requires-2 c κs = search needs
-
 returns : tie.Need-returns
 unfolding arctangent
 returns c = let s = sym (c .before .before .is-negative .ensures) ∙ c .before .if1 .taken in rw s (ap neg (c .arctangent-of .ensures ∙ ap arctangentOf (sym (absolute-minus _ s))))
@@ -26,9 +17,4 @@ returns-2 c = let s = sym (c .before .before .is-negative .ensures) ∙ c .befor
 pub atan-spec : {M : Type 1} → statement M
 atan-spec =
     tie.close
-    (tie.spec
-    is-negative-requires
-    arctangent-of-requires
-    arctangent-of-requires-2
-    returns
-    returns-2)
+    (tie.spec (λ c κs. search needs) (λ c κs. search needs) (λ c κs. search needs) returns returns-2)

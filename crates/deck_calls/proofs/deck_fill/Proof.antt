@@ -28,18 +28,6 @@ returns : tie.Need-returns
 unfolding fillNumber filled
 returns c = let e = ne-eqb _ _ (c .if1 .taken) in (simp e, simp e)
 
-slots-of-requires : tie.Need-slots-of-requires
-slots-of-requires c κs = search needs
-
-model-of-requires : tie.Need-model-of-requires
-model-of-requires c κs = search needs
-
-run-card-requires : tie.Need-run-card-requires
-run-card-requires c κs = search needs
-
-same-length : tie.Need-same-length
-same-length c = search needs
-
 returns-2 : tie.Need-returns-2
 returns-2 c =
     let m = c .before .before .before .before .model-of in
@@ -54,4 +42,5 @@ returns-2 c =
 pub deck-fill-spec : {M : Type 1} → statement M
 deck-fill-spec =
     tie.close
-    (tie.spec returns slots-of-requires model-of-requires run-card-requires same-length returns-2)
+    (tie.spec returns (λ c κs. search needs) (λ c κs. search needs) (λ c κs. search needs) (λ c. search needs)
+    returns-2)

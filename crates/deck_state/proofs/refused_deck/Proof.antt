@@ -9,9 +9,6 @@ use borrow.Author.Needs.{needs}
 use Rattle.deck_state.proofs.refused_deck.Statement.{statement}
 use Rattle.deck_state.proofs.refused_deck.Tie as tie
 
-is-full-requires : tie.Need-is-full-requires
-is-full-requires c κs = search needs
-
 returns : tie.Need-returns
 unfolding refusedWithin
 returns c = simp (sym (c .before .is-full .ensures) ∙ c .if1 .taken)
@@ -31,4 +28,4 @@ unfolding refusedWithin refusedDeck
 returns-3 c = simp (sym (c .before .before .before .is-full .ensures) ∙ c .before .before .if1 .left, ne-eqb _ _ (c .before .if2 .left), add-one)
 
 pub refused-deck-spec : {M : Type 1} → statement M
-refused-deck-spec = tie.close (tie.spec is-full-requires returns returns-2 add-t5 returns-3)
+refused-deck-spec = tie.close (tie.spec (λ c κs. search needs) returns returns-2 add-t5 returns-3)

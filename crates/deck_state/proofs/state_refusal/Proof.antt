@@ -6,22 +6,13 @@ use borrow.Author.Needs.{needs}
 use Rattle.deck_state.proofs.state_refusal.Statement.{statement}
 use Rattle.deck_state.proofs.state_refusal.Tie as tie
 
-is-full-requires : tie.Need-is-full-requires
-is-full-requires c κs = search needs
-
 returns : tie.Need-returns
 unfolding stateRefusal firstRefusal
 returns c = simp (sym (c .before .is-full .ensures) ∙ c .if1 .taken)
 
-is-finite-requires : tie.Need-is-finite-requires
-is-finite-requires c κs = search needs
-
 returns-2 : tie.Need-returns-2
 unfolding stateRefusal firstRefusal
 returns-2 c = simp (sym (c .before .before .before .is-full .ensures) ∙ c .before .before .if1 .left, sym (c .before .is-finite .ensures) ∙ not-true _ (c .if2 .taken))
-
-is-table-requires : tie.Need-is-table-requires
-is-table-requires c κs = search needs
 
 returns-3 : tie.Need-returns-3
 unfolding stateRefusal firstRefusal
@@ -34,11 +25,5 @@ returns-4 c = simp (sym (c .before .before .before .before .before .is-full .ens
 pub state-refusal-spec : {M : Type 1} → statement M
 state-refusal-spec =
     tie.close
-    (tie.spec
-    is-full-requires
-    returns
-    is-finite-requires
-    returns-2
-    is-table-requires
-    returns-3
+    (tie.spec (λ c κs. search needs) returns (λ c κs. search needs) returns-2 (λ c κs. search needs) returns-3
     returns-4)

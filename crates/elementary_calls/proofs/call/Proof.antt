@@ -1,25 +1,12 @@
 use mathlib.Core.Path.{ap, _∙_}
 use borrow.Author.Tests.{eq-eqb, ne-eqb}
-use borrow.Author.Needs.{sfits-of}
+use borrow.Author.Needs.{sfits-of, needs}
 use mir.Syntax.{w32}
 use mir.ValLaws.{toZ-ofZ}
 use lib.Ieee.{binary32, toBits}
 use Rattle.elementary_calls.specs.Calls.{answer, twosComplement}
-use borrow.Author.Needs.{needs}
 use Rattle.elementary_calls.proofs.call.Statement.{statement}
 use Rattle.elementary_calls.proofs.call.Tie as tie
-
-cut-requires : tie.Need-cut-requires
-cut-requires c κs = search needs
-
-twos-complement-requires : tie.Need-twos-complement-requires
-twos-complement-requires c κs = search needs
-
-value-of-requires : tie.Need-value-of-requires
-value-of-requires c κs = search needs
-
-bits-requires : tie.Need-bits-requires
-bits-requires c κs = search needs
 
 returns : tie.Need-returns
 unfolding answer
@@ -32,10 +19,5 @@ returns-2 c = simp (ne-eqb _ 2 (c .before .before .if1 .left)) (c .bits .ensures
 pub call-spec : {M : Type 1} → statement M
 call-spec =
     tie.close
-    (tie.spec
-    cut-requires
-    twos-complement-requires
-    value-of-requires
-    bits-requires
-    returns
-    returns-2)
+    (tie.spec (λ c κs. search needs) (λ c κs. search needs) (λ c κs. search needs) (λ c κs. search needs)
+    returns returns-2)

@@ -41,27 +41,6 @@ returns c = let e = ne-eqb _ _ (c .if1 .taken) in (simp e, simp e)
 loop-holds : tie.Need-loop-holds Inv-loop μ-loop
 loop-holds c = (omega arith, sym (c .if1 .left), λ k h. omega arith)
 
-mul-call : tie.Need-mul-call Inv-loop μ-loop
-mul-call c = search needs
-
-shared-slice-read-call : tie.Need-shared-slice-read-call Inv-loop μ-loop
-shared-slice-read-call c = omega arith
-
-call-requires : tie.Need-call-requires Inv-loop μ-loop
-call-requires c κs = tt
-
-mul-out : tie.Need-mul-out Inv-loop μ-loop
-mul-out c = search needs
-
-slice-write-out : tie.Need-slice-write-out Inv-loop μ-loop
-slice-write-out c = omega arith
-
-add-i : tie.Need-add-i Inv-loop μ-loop
-add-i c = omega arith
-
-loop-less : tie.Need-loop-less Inv-loop μ-loop
-loop-less c = omega arith
-
 loop-again : tie.Need-loop-again Inv-loop μ-loop
 loop-again c =
     let l = c .before .before .before .loop in
@@ -69,9 +48,6 @@ loop-again c =
     let n : ℕ = l .i in
     let r : ℕ = c .call .result in
     (omega arith, simp length-set (l .inv .1), below-more (λ (k : ℕ). getD (set (l .out) n r) k 0 ≡ answer (a .function) (getD (a .xs .now) k nan)) n (λ k h. getD-set-other (l .out) n k r 0 (let z : k ≢ n = omega arith in z) ∙ l .inv .2 k h) (getD-set-same (l .out) n r 0 (let z : n < length (l .out) = omega arith in z) ∙ c .call .ensures))
-
-same-length : tie.Need-same-length Inv-loop μ-loop
-same-length c = omega arith
 
 returns-2 : tie.Need-returns-2 Inv-loop μ-loop
 unfolding mapNumber mapped
@@ -84,18 +60,6 @@ returns-2 c =
 pub elementary-map-spec : {M : Type 1} → statement M
 elementary-map-spec =
     tie.close
-    (tie.spec
-    Inv-loop
-    μ-loop
-    returns
-    loop-holds
-    mul-call
-    shared-slice-read-call
-    call-requires
-    mul-out
-    slice-write-out
-    add-i
-    loop-less
-    loop-again
-    same-length
+    (tie.spec Inv-loop μ-loop returns loop-holds (λ c. search needs) (λ c. omega arith) (λ c κs. tt)
+    (λ c. search needs) (λ c. omega arith) (λ c. omega arith) (λ c. omega arith) loop-again (λ c. omega arith)
     returns-2)

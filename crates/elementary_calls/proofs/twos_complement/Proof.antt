@@ -30,4 +30,5 @@ returns-2 c = let m = minus (c .before .args .n) (c .before .fits .n) (c .if1 .l
 
 pub twos-complement-spec : {M : Type 1} → statement M
 twos-complement-spec =
-    tie.close (tie.spec cast-result sub-result cast-result-2 sub-result-2 returns returns-2)
+    tie.close
+    (tie.spec cast-result sub-result cast-result-2 sub-result-2 returns returns-2)

@@ -4,48 +4,6 @@ use borrow.Author.Needs.{needs}
 use Rattle.elementary_calls.proofs.value_of.Statement.{statement}
 use Rattle.elementary_calls.proofs.value_of.Tie as tie
 
-abs-requires : tie.Need-abs-requires
-abs-requires c κs = search needs
-
-max-small-requires : tie.Need-max-small-requires
-max-small-requires c κs = search needs
-
-powi2-requires : tie.Need-powi2-requires
-powi2-requires c κs = search needs
-
-powi4-requires : tie.Need-powi4-requires
-powi4-requires c κs = search needs
-
-sin-requires : tie.Need-sin-requires
-sin-requires c κs = search needs
-
-cos-requires : tie.Need-cos-requires
-cos-requires c κs = search needs
-
-sin-cos-requires : tie.Need-sin-cos-requires
-sin-cos-requires c κs = search needs
-
-sin-cos-requires-2 : tie.Need-sin-cos-requires-2
-sin-cos-requires-2 c κs = search needs
-
-tan-requires : tie.Need-tan-requires
-tan-requires c κs = search needs
-
-atan-requires : tie.Need-atan-requires
-atan-requires c κs = search needs
-
-asin-requires : tie.Need-asin-requires
-asin-requires c κs = search needs
-
-ln-requires : tie.Need-ln-requires
-ln-requires c κs = search needs
-
-log10-requires : tie.Need-log10-requires
-log10-requires c κs = search needs
-
-sqrt-requires : tie.Need-sqrt-requires
-sqrt-requires c κs = search needs
-
 returns : tie.Need-returns
 unfolding value
 returns c = rw (c .before .match .keys1) (c .abs .ensures)
@@ -105,32 +63,8 @@ returns-14 c = let r = c .before .match .rest in simp (ne-eqb _ 0 (r .0 .0 .0 .0
 pub value-of-spec : {M : Type 1} → statement M
 value-of-spec =
     tie.close
-    (tie.spec
-    abs-requires
-    max-small-requires
-    powi2-requires
-    powi4-requires
-    sin-requires
-    cos-requires
-    sin-cos-requires
-    sin-cos-requires-2
-    tan-requires
-    atan-requires
-    asin-requires
-    ln-requires
-    log10-requires
-    sqrt-requires
-    returns
-    returns-2
-    returns-3
-    returns-4
-    returns-5
-    returns-6
-    returns-7
-    returns-8
-    returns-9
-    returns-10
-    returns-11
-    returns-12
-    returns-13
-    returns-14)
+    (tie.spec (λ c κs. search needs) (λ c κs. search needs) (λ c κs. search needs) (λ c κs. search needs)
+    (λ c κs. search needs) (λ c κs. search needs) (λ c κs. search needs) (λ c κs. search needs)
+    (λ c κs. search needs) (λ c κs. search needs) (λ c κs. search needs) (λ c κs. search needs)
+    (λ c κs. search needs) (λ c κs. search needs) returns returns-2 returns-3 returns-4 returns-5 returns-6
+    returns-7 returns-8 returns-9 returns-10 returns-11 returns-12 returns-13 returns-14)

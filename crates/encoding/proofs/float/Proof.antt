@@ -12,8 +12,5 @@ returns : tie.Need-returns
 unfolding div ofBits
 returns c = sym (nan-bits _ (c .if1 .taken))
 
-returns-2 : tie.Need-returns-2
-returns-2 c = search needs
-
 pub float-spec : {M : Type 1} → statement M
-float-spec = tie.close (tie.spec float-from-bits-result returns returns-2)
+float-spec = tie.close (tie.spec float-from-bits-result returns (λ c. search needs))

@@ -6,12 +6,6 @@ use borrow.Author.Needs.{needs}
 use Rattle.finish.proofs.efficiency.Statement.{statement}
 use Rattle.finish.proofs.efficiency.Tie as tie
 
-monopole-efficiency-requires : tie.Need-monopole-efficiency-requires
-monopole-efficiency-requires c κs = search needs
-
-monopole-efficiency-requires-2 : tie.Need-monopole-efficiency-requires-2
-monopole-efficiency-requires-2 c κs = search needs
-
 returns : tie.Need-returns
 unfolding efficiencyOf isType round ofBits neg
 returns c = rw (is-type (c .before .args .kop) (search needs) (c .match .keys1))
@@ -48,14 +42,5 @@ returns-8 c = let r = c .match .rest in
 pub efficiency-spec : {M : Type 1} → statement M
 efficiency-spec =
     tie.close
-    (tie.spec
-    monopole-efficiency-requires
-    monopole-efficiency-requires-2
-    returns
-    returns-2
-    returns-3
-    returns-4
-    returns-5
-    returns-6
-    returns-7
-    returns-8)
+    (tie.spec (λ c κs. search needs) (λ c κs. search needs) returns returns-2 returns-3 returns-4 returns-5
+    returns-6 returns-7 returns-8)

@@ -2,19 +2,12 @@ use mathlib.Core.Path.{_≡_, ap, _∙_}
 use lib.IntN.{ℤ}
 use mir.Syntax.{w32}
 use mir.ValLaws.{toZ-ofZ}
-use Rattle.finish.specs.Finish.{efficiencyOf, floored}
+use Rattle.finish.specs.Finish.{efficiencyOf, floored, groundOf}
 use Rattle.single.specs.Single.{num}
 use lib.Ieee.{round, ofBits, neg}
-use Rattle.finish.specs.Finish.{groundOf}
 use borrow.Author.Needs.{needs}
 use Rattle.finish.proofs.ground_gain.Statement.{statement}
 use Rattle.finish.proofs.ground_gain.Tie as tie
-
-efficiency-requires : tie.Need-efficiency-requires
-efficiency-requires c κs = search needs
-
-with-floor-requires : tie.Need-with-floor-requires
-with-floor-requires c κs = search needs
 
 returns : tie.Need-returns
 unfolding groundOf round ofBits neg
@@ -24,4 +17,4 @@ returns c = let kop = c .before .before .args .kop in
     rw (← e) (rw ((c .with-floor .ensures) ∙ ap (λ (k : ℤ). floored k (neg (num 30 1)) (c .before .efficiency .result) (num 0 1)) back))
 
 pub ground-gain-spec : {M : Type 1} → statement M
-ground-gain-spec = tie.close (tie.spec efficiency-requires with-floor-requires returns)
+ground-gain-spec = tie.close (tie.spec (λ c κs. search needs) (λ c κs. search needs) returns)

@@ -3,9 +3,6 @@ use mathlib.Core.Path.{sym}
 use borrow.Author.Needs.{needs}
 use Rattle.gainlist.proofs.flush.Statement.{statement}
 use Rattle.gainlist.proofs.flush.Tie as tie
-use Rattle.gainlist.proofs.flush.Reads as reads
-use Rattle.gainlist.proofs.flush.Lts as lts
-use Rattle.io.proofs.write_all.Reads as write-all-reads
 
 -- src/main.rt:23:46
 slice-aggregate-write-all : tie.Need-slice-aggregate-write-all

@@ -6,10 +6,6 @@ use native.Mathlib.Omega.{arith}
 use borrow.Author.Needs.{needs}
 use Rattle.gainlist.proofs.list_piece.Statement.{statement}
 use Rattle.gainlist.proofs.list_piece.Tie as tie
-use Rattle.gainlist.proofs.list_piece.Reads as reads
-use Rattle.gainlist.proofs.list_piece.Lts as lts
-use Rattle.gainlist.proofs.flush_full.Reads as flush-full-reads
-use Rattle.listing.proofs.step.Reads as step-reads
 
 abbrev Inv-loop : tie.InvT-loop
 Inv-loop line₀ piece table₀ out₀ s₀ used₀ line table out s used = Listing piece line₀ table₀ out₀ line table out (s .at) used
@@ -88,23 +84,6 @@ returns-2 c = omega (arith, c .before .loop .inv .kept .room, c .before .loop .i
 pub list-piece-spec : {M : Type 1} → statement M
 list-piece-spec =
     tie.close
-    (tie.spec
-    Inv-loop
-    μ-loop
-    loop-holds
-    same-length
-    same-length-2
-    same-length-3
-    returns
-    sub-step
-    part-step-start
-    part-step-end
-    step-requires
-    flush-full-requires
-    add-used
-    loop-less
-    loop-again
-    same-length-4
-    same-length-5
-    same-length-6
-    returns-2)
+    (tie.spec Inv-loop μ-loop loop-holds same-length same-length-2 same-length-3 returns sub-step
+    part-step-start part-step-end step-requires flush-full-requires add-used loop-less loop-again
+    same-length-4 same-length-5 same-length-6 returns-2)

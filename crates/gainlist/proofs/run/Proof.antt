@@ -5,13 +5,6 @@ use native.Mathlib.Omega.{arith}
 use borrow.Author.Needs.{needs}
 use Rattle.gainlist.proofs.run.Statement.{statement}
 use Rattle.gainlist.proofs.run.Tie as tie
-use Rattle.gainlist.proofs.run.Reads as reads
-use Rattle.gainlist.proofs.run.Lts as lts
-use Rattle.gainlist.proofs.report_failure.Reads as report-failure-reads
-use Rattle.gainlist.proofs.turn.Reads as turn-reads
-use Rattle.gainlist.proofs.write_last.Reads as write-last-reads
-use Rattle.listing.proofs.finish.Reads as finish-reads
-use Rattle.listing.proofs.start.Reads as start-reads
 
 abbrev Inv-loop : tie.InvT-loop
 Inv-loop line₀ input₀ table₀ out₀ state₀ turns₀ going₀ line input table out state turns going = Running line₀ input₀ table₀ out₀ line input table out (state .at)
@@ -98,25 +91,6 @@ returns-2 c = search needs
 pub run-spec : {M : Type 1} → statement M
 run-spec =
     tie.close
-    (tie.spec
-    Inv-loop
-    μ-loop
-    start-requires
-    loop-holds
-    turn-requires
-    sub-turns
-    loop-less
-    loop-again
-    report-failure-requires
-    same-length
-    same-length-2
-    same-length-3
-    same-length-4
-    returns
-    finish-requires
-    write-last-requires
-    same-length-5
-    same-length-6
-    same-length-7
-    same-length-8
-    returns-2)
+    (tie.spec Inv-loop μ-loop start-requires loop-holds turn-requires sub-turns loop-less loop-again
+    report-failure-requires same-length same-length-2 same-length-3 same-length-4 returns finish-requires
+    write-last-requires same-length-5 same-length-6 same-length-7 same-length-8 returns-2)

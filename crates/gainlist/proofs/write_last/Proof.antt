@@ -3,10 +3,6 @@ use mathlib.Core.Path.{sym}
 use borrow.Author.Needs.{needs}
 use Rattle.gainlist.proofs.write_last.Statement.{statement}
 use Rattle.gainlist.proofs.write_last.Tie as tie
-use Rattle.gainlist.proofs.write_last.Reads as reads
-use Rattle.gainlist.proofs.write_last.Lts as lts
-use Rattle.gainlist.proofs.report_failure.Reads as report-failure-reads
-use Rattle.io.proofs.write_all.Reads as write-all-reads
 
 -- src/main.rt:115:38
 slice-aggregate-write-all : tie.Need-slice-aggregate-write-all
@@ -31,9 +27,4 @@ returns-2 c = search needs
 pub write-last-spec : {M : Type 1} → statement M
 write-last-spec =
     tie.close
-    (tie.spec
-    slice-aggregate-write-all
-    write-all-requires
-    report-failure-requires
-    returns
-    returns-2)
+    (tie.spec slice-aggregate-write-all write-all-requires report-failure-requires returns returns-2)

@@ -6,14 +6,8 @@ use borrow.Author.Needs.{needs}
 use Rattle.lookup_refusals.proofs.card_refusal.Statement.{statement}
 use Rattle.lookup_refusals.proofs.card_refusal.Tie as tie
 
-lookup-refusal-requires : tie.Need-lookup-refusal-requires
-lookup-refusal-requires c κs = search needs
-
 returns : tie.Need-returns
 returns c = rw (card-refusal, ← c .before .lookup-refusal .ensures, ne-eqb _ 0 (c .if1 .taken))
-
-is-range-requires : tie.Need-is-range-requires
-is-range-requires c κs = search needs
 
 returns-2 : tie.Need-returns-2
 returns-2 c =
@@ -31,4 +25,4 @@ returns-4 c = rw (card-refusal, ← c .before .before .lookup-refusal .ensures, 
 pub card-refusal-spec : {M : Type 1} → statement M
 card-refusal-spec =
     tie.close
-    (tie.spec lookup-refusal-requires returns is-range-requires returns-2 returns-3 returns-4)
+    (tie.spec (λ c κs. search needs) returns (λ c κs. search needs) returns-2 returns-3 returns-4)

@@ -4,18 +4,9 @@ use borrow.Author.Needs.{needs}
 use Rattle.lookup_refusals.proofs.lookup_refusal.Statement.{statement}
 use Rattle.lookup_refusals.proofs.lookup_refusal.Tie as tie
 
-is-table-requires : tie.Need-is-table-requires
-is-table-requires c κs = search needs
-
 returns : tie.Need-returns
 unfolding lookupRefusal firstRefusal
 returns c = rw (← c .before .is-table .ensures, c .if1 .taken)
-
-slice-aggregate-any-outside : tie.Need-slice-aggregate-any-outside
-slice-aggregate-any-outside c = search needs
-
-any-outside-requires : tie.Need-any-outside-requires
-any-outside-requires c κs = search needs
 
 returns-2 : tie.Need-returns-2
 unfolding lookupRefusal firstRefusal
@@ -28,10 +19,4 @@ returns-3 c = rw (← c .before .before .before .before .is-table .ensures, c .b
 pub lookup-refusal-spec : {M : Type 1} → statement M
 lookup-refusal-spec =
     tie.close
-    (tie.spec
-    is-table-requires
-    returns
-    slice-aggregate-any-outside
-    any-outside-requires
-    returns-2
-    returns-3)
+    (tie.spec (λ c κs. search needs) returns (λ c. search needs) (λ c κs. search needs) returns-2 returns-3)

@@ -28,9 +28,6 @@ Inv-loop2 m start r₀ r = (r < 33554432) × (r * r ≤ m)
 abbrev μ-loop2 : tie.MeasureT-loop2
 μ-loop2 m start r₀ r = 33554432 - r
 
-loop-holds : tie.Need-loop-holds Inv-loop μ-loop Inv-loop2 μ-loop2
-loop-holds c = omega arith
-
 mul-loop : tie.Need-mul-loop Inv-loop μ-loop Inv-loop2 μ-loop2
 mul-loop c = square-fits (c .loop .r) (omega arith)
 
@@ -40,23 +37,11 @@ sub-r c = above-zero _ _ (c .loop-test .taken)
 loop-less : tie.Need-loop-less Inv-loop μ-loop Inv-loop2 μ-loop2
 loop-less c = let h : 1 ≤ c .before .loop .r = above-zero _ _ (c .loop-test .taken) in omega arith
 
-loop-again : tie.Need-loop-again Inv-loop μ-loop Inv-loop2 μ-loop2
-loop-again c = omega arith
-
 loop2-holds : tie.Need-loop2-holds Inv-loop μ-loop Inv-loop2 μ-loop2
 loop2-holds c = (c .before .loop .inv, c .loop-test .left)
 
-add-loop2 : tie.Need-add-loop2 Inv-loop μ-loop Inv-loop2 μ-loop2
-add-loop2 c = omega arith
-
-add-loop2-2 : tie.Need-add-loop2-2 Inv-loop μ-loop Inv-loop2 μ-loop2
-add-loop2-2 c = omega arith
-
 mul-loop2 : tie.Need-mul-loop2 Inv-loop μ-loop Inv-loop2 μ-loop2
 mul-loop2 c = square-fits (c .loop2 .r + 1) (omega arith)
-
-add-r : tie.Need-add-r Inv-loop μ-loop Inv-loop2 μ-loop2
-add-r c = omega arith
 
 loop2-less : tie.Need-loop2-less Inv-loop μ-loop Inv-loop2 μ-loop2
 loop2-less c = let h = root-below _ _ (c .loop2-test .taken) (c .before .before .before .before .pre .0) in omega arith
@@ -70,21 +55,6 @@ returns c = record { low = c .before .loop2 .inv .1; high = c .loop2-test .left 
 pub isqrt-spec : {M : Type 1} → statement M
 isqrt-spec =
     tie.close
-    (tie.spec
-    Inv-loop
-    μ-loop
-    Inv-loop2
-    μ-loop2
-    loop-holds
-    mul-loop
-    sub-r
-    loop-less
-    loop-again
-    loop2-holds
-    add-loop2
-    add-loop2-2
-    mul-loop2
-    add-r
-    loop2-less
-    loop2-again
+    (tie.spec Inv-loop μ-loop Inv-loop2 μ-loop2 (λ c. omega arith) mul-loop sub-r loop-less (λ c. omega arith)
+    loop2-holds (λ c. omega arith) (λ c. omega arith) mul-loop2 (λ c. omega arith) loop2-less loop2-again
     returns)

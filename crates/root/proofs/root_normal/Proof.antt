@@ -17,12 +17,6 @@ bound c =
     let s = c .before .before .before in
     subst (λ (n : ℕ). n ≤ 16777216) (sym (made c)) (near-hi (radicandOf (s .args .b)) (radicand-lo (s .args .b) (s .pre .0) (s .pre .1)) (radicand-hi (s .args .b) (s .pre .0) (s .pre .1)))
 
-radicand-requires : tie.Need-radicand-requires
-radicand-requires c κs = search needs
-
-guess-requires : tie.Need-guess-requires
-guess-requires c κs = search needs
-
 rounded-requires : tie.Need-rounded-requires
 rounded-requires c κs =
     let s = c .before .before in
@@ -30,15 +24,6 @@ rounded-requires c κs =
 
 cast-s : tie.Need-cast-s
 cast-s c = let h = bound c in omega arith
-
-add-j : tie.Need-add-j
-add-j c = search needs
-
-sub-j : tie.Need-sub-j
-sub-j c = search needs
-
-mul-result : tie.Need-mul-result
-mul-result c = search needs
 
 add-result : tie.Need-add-result
 add-result c = let h = bound c in omega arith
@@ -54,14 +39,5 @@ returns c =
 pub root-normal-spec : {M : Type 1} → statement M
 root-normal-spec =
     tie.close
-    (tie.spec
-    radicand-requires
-    guess-requires
-    rounded-requires
-    cast-s
-    add-j
-    sub-j
-    mul-result
-    add-result
-    float-from-bits-result
-    returns)
+    (tie.spec (λ c κs. search needs) (λ c κs. search needs) rounded-requires cast-s (λ c. search needs)
+    (λ c. search needs) (λ c. search needs) add-result float-from-bits-result returns)

@@ -18,9 +18,6 @@ square-fits r h = let s : r * r ≤ 1125899906842624 = square-le r h in omega ar
 mul-if1 : tie.Need-mul-if1
 mul-if1 c = square-fits (c .args .g) (c .pre .1)
 
-add-if1 : tie.Need-add-if1
-add-if1 c = search needs
-
 mul-if2 : tie.Need-mul-if2
 mul-if2 c = square-fits (c .before .args .g) (c .before .pre .1)
 
@@ -29,18 +26,6 @@ add-if2 c = let s = square-le (c .before .args .g) (c .before .pre .1) in omega 
 
 returns : tie.Need-returns
 returns c = sym (near-is _ _ (c .before .if1 .taken) (c .if2 .taken))
-
-isqrt-requires : tie.Need-isqrt-requires
-isqrt-requires c κs = search needs
-
-mul-if3 : tie.Need-mul-if3
-mul-if3 c = search needs
-
-sub-if3 : tie.Need-sub-if3
-sub-if3 c = search needs
-
-add-result : tie.Need-add-result
-add-result c = search needs
 
 returns-2 : tie.Need-returns-2
 returns-2 c = sym (up-is _ _ (c .before .isqrt .ensures) (c .if3 .taken))
@@ -51,15 +36,5 @@ returns-3 c = sym (down-is _ _ (c .before .isqrt .ensures) (c .if3 .left))
 pub rounded-spec : {M : Type 1} → statement M
 rounded-spec =
     tie.close
-    (tie.spec
-    mul-if1
-    add-if1
-    mul-if2
-    add-if2
-    returns
-    isqrt-requires
-    mul-if3
-    sub-if3
-    add-result
-    returns-2
-    returns-3)
+    (tie.spec mul-if1 (λ c. search needs) mul-if2 add-if2 returns (λ c κs. search needs) (λ c. search needs)
+    (λ c. search needs) (λ c. search needs) returns-2 returns-3)

@@ -28,9 +28,6 @@ root-normal-requires c κs =
     let p = c .before .before .if1 .taken in
     (scaled-normal _ f p (c .if3 .taken), scaled-below _ f p (c .if3 .taken), lit< tt)
 
-root-normal-requires-2 : tie.Need-root-normal-requires-2
-root-normal-requires-2 c κs = search needs
-
 returns : tie.Need-returns
 unfolding root
 returns c =
@@ -64,13 +61,5 @@ returns-5 c = let y = c .before .before .args .y in on-other y atUnits y (c .bef
 pub sqrt-spec : {M : Type 1} → statement M
 sqrt-spec =
     tie.close
-    (tie.spec
-    float-to-bits-b
-    float-to-bits-root-normal
-    root-normal-requires
-    root-normal-requires-2
-    returns
-    returns-2
-    returns-3
-    returns-4
-    returns-5)
+    (tie.spec float-to-bits-b float-to-bits-root-normal root-normal-requires (λ c κs. search needs) returns
+    returns-2 returns-3 returns-4 returns-5)

@@ -12,12 +12,6 @@ returns : tie.Need-returns
 unfolding refusedTable isTable
 returns c = simp (ne-eqb _ _ (c .if1 .taken))
 
-fill-requires : tie.Need-fill-requires
-fill-requires c κs = search needs
-
-same-length : tie.Need-same-length
-same-length c = search needs
-
 returns-2 : tie.Need-returns-2
 unfolding refusedTable filledWith cleared isTable round ofBits
 returns-2 c =
@@ -25,4 +19,4 @@ returns-2 c =
     simp (eq-eqb _ _ n) (c .before .before .fill .ensures ∙ ap (λ k. replicate k (num 0 1)) n)
 
 pub clear-refused-spec : {M : Type 1} → statement M
-clear-refused-spec = tie.close (tie.spec returns fill-requires same-length returns-2)
+clear-refused-spec = tie.close (tie.spec returns (λ c κs. search needs) (λ c. search needs) returns-2)

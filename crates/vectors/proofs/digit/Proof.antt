@@ -6,15 +6,6 @@ use borrow.Author.Needs.{needs}
 use Rattle.vectors.proofs.digit.Statement.{statement}
 use Rattle.vectors.proofs.digit.Tie as tie
 
-cast-result : tie.Need-cast-result
-cast-result c = search needs
-
-sub-result : tie.Need-sub-result
-sub-result c = search needs
-
-cast-result-2 : tie.Need-cast-result-2
-cast-result-2 c = search needs
-
 returns : tie.Need-returns
 unfolding digitOf
 returns c = simp (lt-leb 48 _ (c .if1 .taken), lt-leb 97 (c .before .args .b) (let z : c .before .args .b < 97 = omega arith in z))
@@ -38,4 +29,5 @@ returns-5 c = simp (le-leb 48 (c .before .before .before .before .args .b) (let 
 pub digit-spec : {M : Type 1} → statement M
 digit-spec =
     tie.close
-    (tie.spec cast-result sub-result cast-result-2 returns returns-2 returns-3 returns-4 returns-5)
+    (tie.spec (λ c. search needs) (λ c. search needs) (λ c. search needs) returns returns-2 returns-3
+    returns-4 returns-5)

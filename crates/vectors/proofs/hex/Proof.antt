@@ -19,35 +19,11 @@ loop-holds : tie.Need-loop-holds Inv-loop μ-loop
 unfolding hexTo
 loop-holds c = (omega arith, lit< tt, refl)
 
-mul-n : tie.Need-mul-n Inv-loop μ-loop
-mul-n c = omega arith
-
-shared-slice-read-digit : tie.Need-shared-slice-read-digit Inv-loop μ-loop
-shared-slice-read-digit c = omega arith
-
-digit-requires : tie.Need-digit-requires Inv-loop μ-loop
-digit-requires c κs = tt
-
-cast-n : tie.Need-cast-n Inv-loop μ-loop
-cast-n c = search needs
-
-add-n : tie.Need-add-n Inv-loop μ-loop
-add-n c = search needs
-
-add-k : tie.Need-add-k Inv-loop μ-loop
-add-k c = omega arith
-
-loop-less : tie.Need-loop-less Inv-loop μ-loop
-loop-less c = omega arith
-
 loop-again : tie.Need-loop-again Inv-loop μ-loop
 unfolding hexTo
 loop-again c =
     let l = c .before .before .before .loop in
     (omega arith, omega arith, rw (add-one (l .k), ← c .digit .ensures, ← l .inv .2))
-
-cast-result : tie.Need-cast-result Inv-loop μ-loop
-cast-result c = omega arith
 
 returns : tie.Need-returns Inv-loop μ-loop
 unfolding hexOf
@@ -56,17 +32,6 @@ returns c = let l = c .before .loop in let e : l .k ≡ length (c .before .befor
 pub hex-spec : {M : Type 1} → statement M
 hex-spec =
     tie.close
-    (tie.spec
-    Inv-loop
-    μ-loop
-    loop-holds
-    mul-n
-    shared-slice-read-digit
-    digit-requires
-    cast-n
-    add-n
-    add-k
-    loop-less
-    loop-again
-    cast-result
-    returns)
+    (tie.spec Inv-loop μ-loop loop-holds (λ c. omega arith) (λ c. omega arith) (λ c κs. tt)
+    (λ c. search needs) (λ c. search needs) (λ c. omega arith) (λ c. omega arith) loop-again
+    (λ c. omega arith) returns)

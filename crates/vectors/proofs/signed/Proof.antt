@@ -11,15 +11,6 @@ use Rattle.vectors.proofs.signed.Tie as tie
 complement-twice : (n : ℕ) → n ≤ 4294967295 → 4294967295 - (4294967295 - n) ≡ n
 complement-twice n n-fits = omega arith
 
-cast-result : tie.Need-cast-result
-cast-result c = search needs
-
-sub-result : tie.Need-sub-result
-sub-result c = search needs
-
-cast-result-2 : tie.Need-cast-result-2
-cast-result-2 c = search needs
-
 returns : tie.Need-returns
 unfolding signedOf
 returns c = refl
@@ -29,4 +20,6 @@ unfolding signedOf
 returns-2 c = ap (toZ w32) (complement-twice (c .before .args .bits) (search needs))
 
 pub signed-spec : {M : Type 1} → statement M
-signed-spec = tie.close (tie.spec cast-result sub-result cast-result-2 returns returns-2)
+signed-spec =
+    tie.close
+    (tie.spec (λ c. search needs) (λ c. search needs) (λ c. search needs) returns returns-2)

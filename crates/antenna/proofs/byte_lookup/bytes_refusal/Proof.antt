@@ -9,12 +9,6 @@ returns : tie.Need-returns
 unfolding lookupRefusal firstRefusal
 returns c = rw (no-table _ (c .if1 .taken))
 
-slice-aggregate-any-outside : tie.Need-slice-aggregate-any-outside
-slice-aggregate-any-outside c = search needs
-
-any-outside-requires : tie.Need-any-outside-requires
-any-outside-requires c κs = search needs
-
 returns-2 : tie.Need-returns-2
 unfolding lookupRefusal firstRefusal
 returns-2 c = rw (is-table _ (c .before .before .before .if1 .left), ← c .before .any-outside .ensures, c .if2 .taken)
@@ -26,4 +20,4 @@ returns-3 c = rw (is-table _ (c .before .before .before .if1 .left), ← c .befo
 pub bytes-refusal-spec : {M : Type 1} → statement M
 bytes-refusal-spec =
     tie.close
-    (tie.spec returns slice-aggregate-any-outside any-outside-requires returns-2 returns-3)
+    (tie.spec returns (λ c. search needs) (λ c κs. search needs) returns-2 returns-3)

@@ -7,9 +7,6 @@ use borrow.Author.Needs.{needs}
 use Rattle.antenna.proofs.byte_lookup.gain_lookup_in_bytes.Statement.{statement}
 use Rattle.antenna.proofs.byte_lookup.gain_lookup_in_bytes.Tie as tie
 
-bytes-refusal-requires : tie.Need-bytes-refusal-requires
-bytes-refusal-requires c κs = search needs
-
 returns : tie.Need-returns
 unfolding lookupNumber lookupValues gainLookupValues
 returns c = (c .before .bytes-refusal .ensures, rw (← c .before .bytes-refusal .ensures, ne-eqb _ 0 (c .if1 .taken)))
@@ -23,9 +20,6 @@ byte-row-at-requires c κs = (bytes-accepted _ _ _ (sym (c .before .before .byte
 byte-row-at-requires-2 : tie.Need-byte-row-at-requires-2
 byte-row-at-requires-2 c κs = (bytes-accepted _ _ _ (sym (c .before .before .before .bytes-refusal .ensures) ∙ c .before .before .if1 .left) .0, rw (c .before .locate .ensures) (high-in _ _))
 
-blend-requires : tie.Need-blend-requires
-blend-requires c κs = search needs
-
 returns-2 : tie.Need-returns-2
 unfolding lookupNumber lookupValues gainLookupValues
 returns-2 c = (
@@ -36,11 +30,5 @@ returns-2 c = (
 pub gain-lookup-in-bytes-spec : {M : Type 1} → statement M
 gain-lookup-in-bytes-spec =
     tie.close
-    (tie.spec
-    bytes-refusal-requires
-    returns
-    locate-requires
-    byte-row-at-requires
-    byte-row-at-requires-2
-    blend-requires
-    returns-2)
+    (tie.spec (λ c κs. search needs) returns locate-requires byte-row-at-requires byte-row-at-requires-2
+    (λ c κs. search needs) returns-2)

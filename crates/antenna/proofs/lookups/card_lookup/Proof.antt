@@ -10,9 +10,6 @@ use borrow.Author.Needs.{needs}
 use Rattle.antenna.proofs.lookups.card_lookup.Statement.{statement}
 use Rattle.antenna.proofs.lookups.card_lookup.Tie as tie
 
-card-refusal-requires : tie.Need-card-refusal-requires
-card-refusal-requires c κs = search needs
-
 returns : tie.Need-returns
 unfolding lookupNumber lookupValues cardLookupValues
 returns c =
@@ -34,9 +31,6 @@ card-row-requires c κs = (card-accepted _ _ _ _ _ _ (sym (c .before .before .be
 card-row-requires-2 : tie.Need-card-row-requires-2
 card-row-requires-2 c κs = (card-accepted _ _ _ _ _ _ (sym (c .before .before .before .before .card-refusal .ensures) ∙ c .before .before .before .if1 .left) .0, rw (c .before .locate .ensures) (high-in _ _))
 
-blend-requires : tie.Need-blend-requires
-blend-requires c κs = search needs
-
 returns-3 : tie.Need-returns-3
 unfolding lookupNumber lookupValues cardLookupValues
 returns-3 c =
@@ -50,12 +44,5 @@ returns-3 c =
 pub card-lookup-spec : {M : Type 1} → statement M
 card-lookup-spec =
     tie.close
-    (tie.spec
-    card-refusal-requires
-    returns
-    returns-2
-    locate-requires
-    card-row-requires
-    card-row-requires-2
-    blend-requires
-    returns-3)
+    (tie.spec (λ c κs. search needs) returns returns-2 locate-requires card-row-requires card-row-requires-2
+    (λ c κs. search needs) returns-3)

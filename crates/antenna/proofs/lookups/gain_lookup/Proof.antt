@@ -7,9 +7,6 @@ use borrow.Author.Needs.{needs}
 use Rattle.antenna.proofs.lookups.gain_lookup.Statement.{statement}
 use Rattle.antenna.proofs.lookups.gain_lookup.Tie as tie
 
-lookup-refusal-requires : tie.Need-lookup-refusal-requires
-lookup-refusal-requires c κs = search needs
-
 returns : tie.Need-returns
 unfolding lookupNumber lookupValues gainLookupValues
 returns c = (c .before .lookup-refusal .ensures, rw (← c .before .lookup-refusal .ensures, ne-eqb _ 0 (c .if1 .taken)))
@@ -23,9 +20,6 @@ row-at-requires c κs = (accepted _ _ _ (sym (c .before .before .lookup-refusal 
 row-at-requires-2 : tie.Need-row-at-requires-2
 row-at-requires-2 c κs = (accepted _ _ _ (sym (c .before .before .before .lookup-refusal .ensures) ∙ c .before .before .if1 .left) .0, rw (c .before .locate .ensures) (high-in _ _))
 
-blend-requires : tie.Need-blend-requires
-blend-requires c κs = search needs
-
 returns-2 : tie.Need-returns-2
 unfolding lookupNumber lookupValues gainLookupValues
 returns-2 c = (
@@ -36,11 +30,5 @@ returns-2 c = (
 pub gain-lookup-spec : {M : Type 1} → statement M
 gain-lookup-spec =
     tie.close
-    (tie.spec
-    lookup-refusal-requires
-    returns
-    locate-requires
-    row-at-requires
-    row-at-requires-2
-    blend-requires
-    returns-2)
+    (tie.spec (λ c κs. search needs) returns locate-requires row-at-requires row-at-requires-2
+    (λ c κs. search needs) returns-2)

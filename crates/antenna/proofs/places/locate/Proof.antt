@@ -6,14 +6,13 @@ use lib.IntN.{ℤ, pos}
 use lib.Ieee.{Float, binary32, round, ofBits, ofInt, inFloat}
 use mir.Syntax.{w32}
 use mir.ValLaws.{toZ-ofZ}
-use borrow.Author.Needs.{sfits-of}
+use borrow.Author.Needs.{sfits-of, needs}
 use Rattle.single.specs.Single.{_⊞_, _⊟_, _⊠_, num}
 use Rattle.elementary.specs.Basic.{cutToward}
 use Rattle.table.specs.Table.{rowCount, columnCount}
 use Rattle.antenna.specs.Places.{r2d, clamped, nextOf, placeOf}
 use Rattle.antenna.proofs.Bounds.{clamped-within}
 use Rattle.antenna.proofs.Cuts.{cut-kept}
-use borrow.Author.Needs.{needs}
 use Rattle.antenna.proofs.places.locate.Statement.{statement}
 use Rattle.antenna.proofs.places.locate.Tie as tie
 
@@ -23,37 +22,16 @@ placed : (fmc delta : Float) (n m : ℤ) (i j ip1 jp1 : ℕ) → n ≡ cutToward
 unfolding placeOf
 placed fmc delta n m i j ip1 jp1 a b d e f g = rw (← a, ← b, ← d, ← e, ← f, ← g)
 
-cut-requires : tie.Need-cut-requires
-cut-requires c κs = search needs
-
-clamp-requires : tie.Need-clamp-requires
-clamp-requires c κs = search needs
-
-cut-requires-2 : tie.Need-cut-requires-2
-cut-requires-2 c κs = search needs
-
-clamp-requires-2 : tie.Need-clamp-requires-2
-clamp-requires-2 c κs = search needs
-
 sub-degrees : tie.Need-sub-degrees
 sub-degrees c = rw (c .clamp2 .ensures) (clamped-within _ columnCount (lit≤ tt) .0)
 
 cast-degrees : tie.Need-cast-degrees
 cast-degrees c = let h : c .clamp2 .result ≤ columnCount = rw (c .clamp2 .ensures) (clamped-within _ columnCount (lit≤ tt) .1) in omega arith
 
-next-requires : tie.Need-next-requires
-next-requires c κs = search needs
-
 int-to-float-t9 : tie.Need-int-to-float-t9
 int-to-float-t9 c =
     let cut = c .before .before .before .before .before .cut in
     subst (λ (z : ℤ). T (inFloat binary32 z)) (sym (toZ-ofZ w32 _ (sfits-of (cut .ok)) ∙ cut .ensures)) (cut-kept _ (c .before .before .before .before .before .before .pre))
-
-next-requires-2 : tie.Need-next-requires-2
-next-requires-2 c κs = search needs
-
-int-to-float-t13 : tie.Need-int-to-float-t13
-int-to-float-t13 c = search needs
 
 returns : tie.Need-returns
 unfolding round ofBits
@@ -65,15 +43,6 @@ returns c =
 pub locate-spec : {M : Type 1} → statement M
 locate-spec =
     tie.close
-    (tie.spec
-    cut-requires
-    clamp-requires
-    cut-requires-2
-    clamp-requires-2
-    sub-degrees
-    cast-degrees
-    next-requires
-    int-to-float-t9
-    next-requires-2
-    int-to-float-t13
+    (tie.spec (λ c κs. search needs) (λ c κs. search needs) (λ c κs. search needs) (λ c κs. search needs)
+    sub-degrees cast-degrees (λ c κs. search needs) int-to-float-t9 (λ c κs. search needs) (λ c. search needs)
     returns)

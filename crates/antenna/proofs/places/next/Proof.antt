@@ -5,9 +5,6 @@ use Rattle.antenna.specs.Places.{nextOf}
 use Rattle.antenna.proofs.places.next.Statement.{statement}
 use Rattle.antenna.proofs.places.next.Tie as tie
 
-add-result : tie.Need-add-result
-add-result c = search needs
-
 returns : tie.Need-returns
 unfolding nextOf
 returns c = rw (lt-ltb _ _ (c .if1 .taken), add-one (c .before .args .n))
@@ -17,4 +14,4 @@ unfolding nextOf
 returns-2 c = rw (le-ltb _ _ (c .if1 .left))
 
 pub next-spec : {M : Type 1} → statement M
-next-spec = tie.close (tie.spec add-result returns returns-2)
+next-spec = tie.close (tie.spec (λ c. search needs) returns returns-2)

@@ -28,12 +28,6 @@ module _ (first last : ℤ) (t : List Float) (m j jp1 : ℕ) (x y z : ℤ) (a : 
   unfolding filledRow isFilled
   below e = rw (← a, ← d, e)
 
-cast-mhz : tie.Need-cast-mhz
-cast-mhz c = search needs
-
-row-at-requires : tie.Need-row-at-requires
-row-at-requires c κs = search needs
-
 returns : tie.Need-returns
 returns c = c .row-at .ensures ∙ filled (c .before .before .before .before .args .first) (c .before .before .before .before .args .last) _ (c .before .before .before .before .args .m) _ _ _ _ _ (toZ-ofZ w32 _ (search needs)) (toZ-ofZ w32 _ (search needs)) (toZ-pos w32 _ (let h : c .before .before .before .before .args .m ≤ 30 = c .before .before .before .before .pre .1 .last in omega arith)) (c .before .before .if1 .taken) (c .before .if2 .taken)
 
@@ -46,4 +40,4 @@ unfolding round ofBits
 returns-3 c = below (c .before .before .args .first) (c .before .before .args .last) _ (c .before .before .args .m) _ _ _ _ _ (toZ-ofZ w32 _ (search needs)) (toZ-ofZ w32 _ (search needs)) (toZ-pos w32 _ (let h : c .before .before .args .m ≤ 30 = c .before .before .pre .1 .last in omega arith)) (c .if1 .left)
 
 pub card-row-spec : {M : Type 1} → statement M
-card-row-spec = tie.close (tie.spec cast-mhz row-at-requires returns returns-2 returns-3)
+card-row-spec = tie.close (tie.spec (λ c. search needs) (λ c κs. search needs) returns returns-2 returns-3)

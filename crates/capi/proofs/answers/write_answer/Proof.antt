@@ -3,18 +3,6 @@ use borrow.Author.Needs.{needs}
 use Rattle.capi.proofs.answers.write_answer.Statement.{statement}
 use Rattle.capi.proofs.answers.write_answer.Tie as tie
 
-put-requires : tie.Need-put-requires
-put-requires c κs = search needs
-
-put-requires-2 : tie.Need-put-requires-2
-put-requires-2 c κs = search needs
-
-put-requires-3 : tie.Need-put-requires-3
-put-requires-3 c κs = search needs
-
-same-length : tie.Need-same-length
-same-length c = search needs
-
 returns : tie.Need-returns
 returns c =
     let a = c .before .before .before .before .before .before .before .before .before .before .before .before .before .args in
@@ -22,4 +10,5 @@ returns c =
 
 pub write-answer-spec : {M : Type 1} → statement M
 write-answer-spec =
-    tie.close (tie.spec put-requires put-requires-2 put-requires-3 same-length returns)
+    tie.close
+    (tie.spec (λ c κs. search needs) (λ c κs. search needs) (λ c κs. search needs) (λ c. search needs) returns)

@@ -9,32 +9,8 @@ use Rattle.capi.proofs.GainCases.{handed, gain-unwritten, gain-accepted
 use Rattle.capi.proofs.gain.ioncap_gain.Statement.{statement}
 use Rattle.capi.proofs.gain.ioncap_gain.Tie as tie
 
-length-refusal-requires : tie.Need-length-refusal-requires
-length-refusal-requires c κs = search needs
-
 returns : tie.Need-returns
 returns c = gain-unwritten _ _ _ (c .before .if1 .taken) _ (c .length-refusal .ensures)
-
-model-of-requires : tie.Need-model-of-requires
-model-of-requires c κs = search needs
-
-gain-of-requires : tie.Need-gain-of-requires
-gain-of-requires c κs = search needs
-
-enum-known-v : tie.Need-enum-known-v
-enum-known-v c = search needs
-
-write-answer-requires : tie.Need-write-answer-requires
-write-answer-requires c κs = search needs
-
-enum-known-number : tie.Need-enum-known-number
-enum-known-number c = search needs
-
-write-answer-requires-2 : tie.Need-write-answer-requires-2
-write-answer-requires-2 c κs = search needs
-
-same-length : tie.Need-same-length
-same-length c = search needs
 
 returns-2 : tie.Need-returns-2
 unfolding round ofBits
@@ -43,9 +19,6 @@ returns-2 c =
     let call = callOf (a .kop) (a .toaz) (a .asig) (a .aeps) (a .and) (a .anl) (a .anh) (a .aex1) (a .aex2) (a .aex3) (a .aex4) (a .delta) (a .fmc) (a .model) in
     let made : c .before .before .before .before .before .before .before .gain-of .result ≡ gainOf call (a .height) = handed _ _ _ _ _ _ _ _ _ _ _ (toZ-ofZ w32 (a .kop) (search needs)) (toZ-ofZ w32 (a .model) (search needs)) (c .before .before .before .before .before .before .before .before .model-of .ensures) (c .before .before .before .before .before .before .before .gain-of .ensures .0) in
     gain-accepted call (a .height) (a .answer .now) (c .before .before .before .before .before .before .before .before .before .if1 .left) _ made _ _ (c .before .before .before .before .before .v .given .1) (c .before .before .write-answer .ensures)
-
-same-length-2 : tie.Need-same-length-2
-same-length-2 c = search needs
 
 returns-3 : tie.Need-returns-3
 unfolding round ofBits
@@ -58,16 +31,6 @@ returns-3 c =
 pub ioncap-gain-spec : {M : Type 1} → statement M
 ioncap-gain-spec =
     tie.close
-    (tie.spec
-    length-refusal-requires
-    returns
-    model-of-requires
-    gain-of-requires
-    enum-known-v
-    write-answer-requires
-    enum-known-number
-    write-answer-requires-2
-    same-length
-    returns-2
-    same-length-2
-    returns-3)
+    (tie.spec (λ c κs. search needs) returns (λ c κs. search needs) (λ c κs. search needs) (λ c. search needs)
+    (λ c κs. search needs) (λ c. search needs) (λ c κs. search needs) (λ c. search needs) returns-2
+    (λ c. search needs) returns-3)

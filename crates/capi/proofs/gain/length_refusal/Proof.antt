@@ -4,9 +4,6 @@ use Rattle.capi.specs.Gain.{lengthRefusal}
 use Rattle.capi.proofs.gain.length_refusal.Statement.{statement}
 use Rattle.capi.proofs.gain.length_refusal.Tie as tie
 
-is-finite-requires : tie.Need-is-finite-requires
-is-finite-requires c κs = search needs
-
 returns : tie.Need-returns
 unfolding lengthRefusal firstRefusal
 returns c = rw (← c .before .is-finite .ensures, c .if1 .taken)
@@ -16,4 +13,4 @@ unfolding lengthRefusal firstRefusal
 returns-2 c = rw (← c .before .is-finite .ensures, c .if1 .left)
 
 pub length-refusal-spec : {M : Type 1} → statement M
-length-refusal-spec = tie.close (tie.spec is-finite-requires returns returns-2)
+length-refusal-spec = tie.close (tie.spec (λ c κs. search needs) returns returns-2)

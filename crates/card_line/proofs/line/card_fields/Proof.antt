@@ -4,36 +4,6 @@ use borrow.Author.Needs.{needs}
 use Rattle.card_line.proofs.line.card_fields.Statement.{statement}
 use Rattle.card_line.proofs.line.card_fields.Tie as tie
 
-array-read-t9 : tie.Need-array-read-t9
-array-read-t9 c = search needs
-
-array-read-t12 : tie.Need-array-read-t12
-array-read-t12 c = search needs
-
-array-read-t15 : tie.Need-array-read-t15
-array-read-t15 c = search needs
-
-array-read-t18 : tie.Need-array-read-t18
-array-read-t18 c = search needs
-
-array-read-t21 : tie.Need-array-read-t21
-array-read-t21 c = search needs
-
-array-read-t24 : tie.Need-array-read-t24
-array-read-t24 c = search needs
-
-array-read-t27 : tie.Need-array-read-t27
-array-read-t27 c = search needs
-
-array-read-t30 : tie.Need-array-read-t30
-array-read-t30 c = search needs
-
-array-read-t33 : tie.Need-array-read-t33
-array-read-t33 c = search needs
-
-array-read-t9-2 : tie.Need-array-read-t9-2
-array-read-t9-2 c = search needs
-
 returns : tie.Need-returns
 unfolding fieldsOf round ofBits
 returns c = search needs
@@ -41,15 +11,6 @@ returns c = search needs
 pub card-fields-spec : {M : Type 1} → statement M
 card-fields-spec =
     tie.close
-    (tie.spec
-    array-read-t9
-    array-read-t12
-    array-read-t15
-    array-read-t18
-    array-read-t21
-    array-read-t24
-    array-read-t27
-    array-read-t30
-    array-read-t33
-    array-read-t9-2
-    returns)
+    (tie.spec (λ c. search needs) (λ c. search needs) (λ c. search needs) (λ c. search needs)
+    (λ c. search needs) (λ c. search needs) (λ c. search needs) (λ c. search needs) (λ c. search needs)
+    (λ c. search needs) returns)

@@ -7,12 +7,9 @@ use borrow.Author.Needs.{needs}
 use Rattle.card_line.proofs.line.malformed.Statement.{statement}
 use Rattle.card_line.proofs.line.malformed.Tie as tie
 
-card-fields-requires : tie.Need-card-fields-requires
-card-fields-requires c κs = search needs
-
 returns : tie.Need-returns
 unfolding malformedLine fieldsOf round ofBits
 returns c = ap (λ (f : Fields). record { «well_formed» = false; fields = f }) (c .card-fields .ensures)
 
 pub malformed-spec : {M : Type 1} → statement M
-malformed-spec = tie.close (tie.spec card-fields-requires returns)
+malformed-spec = tie.close (tie.spec (λ c κs. search needs) returns)

@@ -19,89 +19,20 @@ first-read c = sym (c .before .before .read-integer2 .ensures) ∙ c .first .giv
 last-read : (c : tie.After-last) → integerAt (c .before .before .before .before .before .before .before .before .before .before .before .before .before .before .before .before .args .s .now) 6 ≡ Number (c .last .given .0 .0)
 last-read c = sym (c .before .before .read-integer3 .ensures) ∙ c .last .given .1
 
-malformed-requires : tie.Need-malformed-requires
-malformed-requires c κs = search needs
-
 returns : tie.Need-returns
 returns c = c .malformed .ensures ∙ sym (wrong-length _ (c .before .if1 .taken))
-
-sub-read-integer : tie.Need-sub-read-integer
-sub-read-integer c = search needs
-
-part-read-integer-start : tie.Need-part-read-integer-start
-part-read-integer-start c = search needs
-
-part-read-integer-end : tie.Need-part-read-integer-end
-part-read-integer-end c = search needs
-
-read-integer-requires : tie.Need-read-integer-requires
-read-integer-requires c κs = search needs
-
-enum-known-kop : tie.Need-enum-known-kop
-enum-known-kop c = search needs
 
 enum-told : tie.Need-enum-told
 enum-told c = search needs
 
-malformed-requires-2 : tie.Need-malformed-requires-2
-malformed-requires-2 c κs = search needs
-
 returns-2 : tie.Need-returns-2
 returns-2 c = no-type _ _ (c .malformed2 .ensures) (sym (c .before .before .before .read-integer .ensures) ∙ c .before .enum-told .given .1)
-
-sub-read-integer-2 : tie.Need-sub-read-integer-2
-sub-read-integer-2 c = search needs
-
-part-read-integer-start-2 : tie.Need-part-read-integer-start-2
-part-read-integer-start-2 c = search needs
-
-part-read-integer-end-2 : tie.Need-part-read-integer-end-2
-part-read-integer-end-2 c = search needs
-
-read-integer-requires-2 : tie.Need-read-integer-requires-2
-read-integer-requires-2 c κs = search needs
-
-enum-known-first : tie.Need-enum-known-first
-enum-known-first c = search needs
-
-enum-told-2 : tie.Need-enum-told-2
-enum-told-2 c = search needs
-
-malformed-requires-3 : tie.Need-malformed-requires-3
-malformed-requires-3 c κs = search needs
 
 returns-3 : tie.Need-returns-3
 returns-3 c = no-first _ _ (c .malformed3 .ensures) (sym (c .before .before .before .read-integer2 .ensures) ∙ c .before .enum-told2 .given .1)
 
-sub-read-integer-3 : tie.Need-sub-read-integer-3
-sub-read-integer-3 c = search needs
-
-part-read-integer-start-3 : tie.Need-part-read-integer-start-3
-part-read-integer-start-3 c = search needs
-
-part-read-integer-end-3 : tie.Need-part-read-integer-end-3
-part-read-integer-end-3 c = search needs
-
-read-integer-requires-3 : tie.Need-read-integer-requires-3
-read-integer-requires-3 c κs = search needs
-
-enum-known-last : tie.Need-enum-known-last
-enum-known-last c = search needs
-
-enum-told-3 : tie.Need-enum-told-3
-enum-told-3 c = search needs
-
-malformed-requires-4 : tie.Need-malformed-requires-4
-malformed-requires-4 c κs = search needs
-
 returns-4 : tie.Need-returns-4
 returns-4 c = no-last _ _ (c .malformed4 .ensures) (sym (c .before .before .before .read-integer3 .ensures) ∙ c .before .enum-told3 .given .1)
-
-read-decimals-requires : tie.Need-read-decimals-requires
-read-decimals-requires c κs = search needs
-
-malformed-requires-5 : tie.Need-malformed-requires-5
-malformed-requires-5 c κs = search needs
 
 returns-5 : tie.Need-returns-5
 returns-5 c = no-decimals _ _ (c .malformed5 .ensures) _ _ (c .before .before .before .read-decimals .ensures) (not-true _ (c .before .if2 .taken))
@@ -115,9 +46,6 @@ cast-card-fields-2 c = i32-fits (c .before .before .before .before .before .befo
 cast-card-fields-3 : tie.Need-cast-card-fields-3
 cast-card-fields-3 c = i32-fits (c .before .before .before .before .before .before .before .before .before .before .before .before .before .before .before .before .before .before .before .before .args .s .now) 6 _ (last-read (c .before .before .before .before))
 
-card-fields-requires : tie.Need-card-fields-requires
-card-fields-requires c κs = search needs
-
 returns-6 : tie.Need-returns-6
 returns-6 c =
     all-read _ _ _ _ _ _ _ (c .before .before .before .before .before .before .before .before .before .before .before .before .before .before .before .before .before .before .before .if1 .left) (kop-read (c .before .before .before .before .before .before .before .before .before .before .before .before .before .before .before)) (first-read (c .before .before .before .before .before .before .before .before .before .before)) (last-read (c .before .before .before .before .before)) (c .before .before .before .read-decimals .ensures) (not-false _ (c .before .if2 .left)) (c .card-fields .ensures)
@@ -125,38 +53,10 @@ returns-6 c =
 pub read-line-spec : {M : Type 1} → statement M
 read-line-spec =
     tie.close
-    (tie.spec
-    malformed-requires
-    returns
-    sub-read-integer
-    part-read-integer-start
-    part-read-integer-end
-    read-integer-requires
-    enum-known-kop
-    enum-told
-    malformed-requires-2
-    returns-2
-    sub-read-integer-2
-    part-read-integer-start-2
-    part-read-integer-end-2
-    read-integer-requires-2
-    enum-known-first
-    enum-told-2
-    malformed-requires-3
-    returns-3
-    sub-read-integer-3
-    part-read-integer-start-3
-    part-read-integer-end-3
-    read-integer-requires-3
-    enum-known-last
-    enum-told-3
-    malformed-requires-4
-    returns-4
-    read-decimals-requires
-    malformed-requires-5
-    returns-5
-    cast-card-fields
-    cast-card-fields-2
-    cast-card-fields-3
-    card-fields-requires
-    returns-6)
+    (tie.spec (λ c κs. search needs) returns (λ c. search needs) (λ c. search needs) (λ c. search needs)
+    (λ c κs. search needs) (λ c. search needs) enum-told (λ c κs. search needs) returns-2 (λ c. search needs)
+    (λ c. search needs) (λ c. search needs) (λ c κs. search needs) (λ c. search needs) (λ c. search needs)
+    (λ c κs. search needs) returns-3 (λ c. search needs) (λ c. search needs) (λ c. search needs)
+    (λ c κs. search needs) (λ c. search needs) (λ c. search needs) (λ c κs. search needs) returns-4
+    (λ c κs. search needs) (λ c κs. search needs) returns-5 cast-card-fields cast-card-fields-2
+    cast-card-fields-3 (λ c κs. search needs) returns-6)

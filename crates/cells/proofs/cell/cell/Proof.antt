@@ -5,25 +5,14 @@ use denote.Enum.Declared.{tagOf}
 use lib.Ieee.{Float}
 use Rattle.reflection.specs.declared.angles.Azimuth.{Azimuth}
 use Rattle.reflection.specs.declared.angles.Elevation.{Elevation}
-use Rattle.cells.specs.Cell.{powerCell, cellBy}
+use Rattle.cells.specs.Cell.{powerCell, cellBy, cellOf}
 use Rattle.rows.specs.declared.row.Row.{Row}
 use Rattle.patterns.specs.declared.pattern.Pattern.{Pattern}
 use Rattle.patterns.specs.declared.pattern.Pattern.the-variants as P
 use Rattle.patterns.proofs.pattern.Pattern.{the-type}
-use mathlib.Core.Path.{refl}
-use Rattle.cells.specs.Cell.{cellOf}
 use borrow.Author.Needs.{needs}
 use Rattle.cells.proofs.cell.cell.Statement.{statement}
 use Rattle.cells.proofs.cell.cell.Tie as tie
-
-enum-known-pattern : tie.Need-enum-known-pattern
-enum-known-pattern c = search needs
-
-curtain-cell-requires : tie.Need-curtain-cell-requires
-curtain-cell-requires c κs = search needs
-
-power-cell-requires : tie.Need-power-cell-requires
-power-cell-requires c κs = search needs
 
 returns : tie.Need-returns
 unfolding cellOf
@@ -51,4 +40,4 @@ returns-2 c = let s = c .before .before .args in
 pub cell-spec : {M : Type 1} → statement M
 cell-spec =
     tie.close
-    (tie.spec enum-known-pattern curtain-cell-requires power-cell-requires returns returns-2)
+    (tie.spec (λ c. search needs) (λ c κs. search needs) (λ c κs. search needs) returns returns-2)

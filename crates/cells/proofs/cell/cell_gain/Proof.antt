@@ -1,20 +1,10 @@
 use mathlib.Core.Path.{_≡_, ap, _∙_}
 use mir.Syntax.{w32}
 use mir.ValLaws.{toZ-ofZ}
-use Rattle.cells.specs.Cell.{looksUp}
-use Rattle.cells.specs.Cell.{cellGain}
+use Rattle.cells.specs.Cell.{looksUp, cellGain}
 use borrow.Author.Needs.{needs}
 use Rattle.cells.proofs.cell.cell_gain.Statement.{statement}
 use Rattle.cells.proofs.cell.cell_gain.Tie as tie
-
-cell-requires : tie.Need-cell-requires
-cell-requires c κs = search needs
-
-looks-up-requires : tie.Need-looks-up-requires
-looks-up-requires c κs = search needs
-
-blend-requires : tie.Need-blend-requires
-blend-requires c κs = search needs
 
 returns : tie.Need-returns
 unfolding cellGain
@@ -30,4 +20,5 @@ returns-2 c = let row = c .before .before .before .before .args .row in
 
 pub cell-gain-spec : {M : Type 1} → statement M
 cell-gain-spec =
-    tie.close (tie.spec cell-requires looks-up-requires blend-requires returns returns-2)
+    tie.close
+    (tie.spec (λ c κs. search needs) (λ c κs. search needs) (λ c κs. search needs) returns returns-2)

@@ -8,18 +8,6 @@ use borrow.Author.Needs.{needs}
 use Rattle.cells.proofs.cell.curtain_cell.Statement.{statement}
 use Rattle.cells.proofs.cell.curtain_cell.Tie as tie
 
-curtain-cell-requires : tie.Need-curtain-cell-requires
-curtain-cell-requires c κs = search needs
-
-curtain-rain-requires : tie.Need-curtain-rain-requires
-curtain-rain-requires c κs = search needs
-
-curtain-sok-requires : tie.Need-curtain-sok-requires
-curtain-sok-requires c κs = search needs
-
-with-floor-requires : tie.Need-with-floor-requires
-with-floor-requires c κs = search needs
-
 returns : tie.Need-returns
 unfolding curtainCell
 returns c = let row = c .before .before .before .before .before .before .args .row in
@@ -29,9 +17,5 @@ returns c = let row = c .before .before .before .before .before .before .args .r
 pub curtain-cell-spec : {M : Type 1} → statement M
 curtain-cell-spec =
     tie.close
-    (tie.spec
-    curtain-cell-requires
-    curtain-rain-requires
-    curtain-sok-requires
-    with-floor-requires
+    (tie.spec (λ c κs. search needs) (λ c κs. search needs) (λ c κs. search needs) (λ c κs. search needs)
     returns)

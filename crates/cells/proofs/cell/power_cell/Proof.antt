@@ -8,18 +8,6 @@ use borrow.Author.Needs.{needs}
 use Rattle.cells.proofs.cell.power_cell.Statement.{statement}
 use Rattle.cells.proofs.cell.power_cell.Tie as tie
 
-reflect-requires : tie.Need-reflect-requires
-reflect-requires c κs = search needs
-
-power-of-requires : tie.Need-power-of-requires
-power-of-requires c κs = search needs
-
-decibels-requires : tie.Need-decibels-requires
-decibels-requires c κs = search needs
-
-with-floor-requires : tie.Need-with-floor-requires
-with-floor-requires c κs = search needs
-
 returns : tie.Need-returns
 unfolding powerCell
 returns c = let row = c .before .before .before .before .before .before .args .row in
@@ -29,4 +17,5 @@ returns c = let row = c .before .before .before .before .before .before .args .r
 pub power-cell-spec : {M : Type 1} → statement M
 power-cell-spec =
     tie.close
-    (tie.spec reflect-requires power-of-requires decibels-requires with-floor-requires returns)
+    (tie.spec (λ c κs. search needs) (λ c κs. search needs) (λ c κs. search needs) (λ c κs. search needs)
+    returns)

@@ -18,30 +18,6 @@ loop-holds : tie.Need-loop-holds Inv-loop μ-loop
 unfolding sxOf round ofBits
 loop-holds c = (omega arith, refl)
 
-cast-k : tie.Need-cast-k Inv-loop μ-loop
-cast-k c = search needs
-
-mul-k : tie.Need-mul-k Inv-loop μ-loop
-mul-k c = search needs
-
-add-k : tie.Need-add-k Inv-loop μ-loop
-add-k c = search needs
-
-add-k-2 : tie.Need-add-k-2 Inv-loop μ-loop
-add-k-2 c = search needs
-
-int-to-float-cos : tie.Need-int-to-float-cos Inv-loop μ-loop
-int-to-float-cos c = search needs
-
-cos-requires : tie.Need-cos-requires Inv-loop μ-loop
-cos-requires c κs = search needs
-
-add-i : tie.Need-add-i Inv-loop μ-loop
-add-i c = search needs
-
-loop-less : tie.Need-loop-less Inv-loop μ-loop
-loop-less c = search needs
-
 loop-again : tie.Need-loop-again Inv-loop μ-loop
 unfolding sxOf round ofBits
 loop-again c = let l = c .before .before .before .loop in (omega arith, rw (add-one (l .i), ← c .cos .ensures, ← l .inv .1))
@@ -52,17 +28,6 @@ returns c = let l = c .before .loop in let e : l .i ≡ c .before .before .args 
 pub bays-sum-spec : {M : Type 1} → statement M
 bays-sum-spec =
     tie.close
-    (tie.spec
-    Inv-loop
-    μ-loop
-    loop-holds
-    cast-k
-    mul-k
-    add-k
-    add-k-2
-    int-to-float-cos
-    cos-requires
-    add-i
-    loop-less
-    loop-again
-    returns)
+    (tie.spec Inv-loop μ-loop loop-holds (λ c. search needs) (λ c. search needs) (λ c. search needs)
+    (λ c. search needs) (λ c. search needs) (λ c κs. search needs) (λ c. search needs) (λ c. search needs)
+    loop-again returns)

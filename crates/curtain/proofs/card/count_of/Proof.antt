@@ -4,14 +4,8 @@ use Rattle.curtain.proofs.Count.{up-fits, count-up, count-down}
 use Rattle.curtain.proofs.card.count_of.Statement.{statement}
 use Rattle.curtain.proofs.card.count_of.Tie as tie
 
-cut-requires : tie.Need-cut-requires
-cut-requires c κs = search needs
-
 cast-k : tie.Need-cast-k
 cast-k c = up-fits (c .before .cut .result) (sfits-of (c .before .cut .ok)) (c .if1 .taken)
-
-cast-result : tie.Need-cast-result
-cast-result c = search needs
 
 returns : tie.Need-returns
 returns c = rw (
@@ -31,4 +25,6 @@ returns-3 : tie.Need-returns-3
 returns-3 c = rw (← c .before .cut .ensures, count-down _ (sfits-of (c .before .cut .ok)) _ _ (c .if1 .left))
 
 pub count-of-spec : {M : Type 1} → statement M
-count-of-spec = tie.close (tie.spec cut-requires cast-k cast-result returns returns-2 returns-3)
+count-of-spec =
+    tie.close
+    (tie.spec (λ c κs. search needs) cast-k (λ c. search needs) returns returns-2 returns-3)

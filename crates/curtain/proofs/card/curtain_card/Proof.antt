@@ -4,12 +4,6 @@ use borrow.Author.Needs.{needs}
 use Rattle.curtain.proofs.card.curtain_card.Statement.{statement}
 use Rattle.curtain.proofs.card.curtain_card.Tie as tie
 
-card-from-requires : tie.Need-card-from-requires
-card-from-requires c κs = search needs
-
-card-from-requires-2 : tie.Need-card-from-requires-2
-card-from-requires-2 c κs = search needs
-
 returns : tie.Need-returns
 unfolding cardOf round ofBits
 returns c = rw (c .before .if1 .taken, ← c .card-from .ensures)
@@ -19,4 +13,4 @@ unfolding cardOf round ofBits
 returns-2 c = rw (c .before .if1 .left, ← c .card-from2 .ensures)
 
 pub curtain-card-spec : {M : Type 1} → statement M
-curtain-card-spec = tie.close (tie.spec card-from-requires card-from-requires-2 returns returns-2)
+curtain-card-spec = tie.close (tie.spec (λ c κs. search needs) (λ c κs. search needs) returns returns-2)

@@ -3,15 +3,6 @@ use borrow.Author.Needs.{needs}
 use Rattle.curtain.proofs.cell.curtain_cell.Statement.{statement}
 use Rattle.curtain.proofs.cell.curtain_cell.Tie as tie
 
-takes-pattern-requires : tie.Need-takes-pattern-requires
-takes-pattern-requires c κs = search needs
-
-reflect-requires : tie.Need-reflect-requires
-reflect-requires c κs = search needs
-
-curtain-gain-requires : tie.Need-curtain-gain-requires
-curtain-gain-requires c κs = search needs
-
 returns : tie.Need-returns
 unfolding cellOf
 returns c = rw (
@@ -28,4 +19,4 @@ returns-2 c = rw (← c .before .takes-pattern .ensures, c .if1 .left)
 pub curtain-cell-spec : {M : Type 1} → statement M
 curtain-cell-spec =
     tie.close
-    (tie.spec takes-pattern-requires reflect-requires curtain-gain-requires returns returns-2)
+    (tie.spec (λ c κs. search needs) (λ c κs. search needs) (λ c κs. search needs) returns returns-2)

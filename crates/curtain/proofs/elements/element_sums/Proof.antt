@@ -18,24 +18,6 @@ loop-holds : tie.Need-loop-holds Inv-loop μ-loop
 unfolding sumsOf sumsFrom round ofBits
 loop-holds c = (omega arith, refl, refl, refl, refl)
 
-mul-a : tie.Need-mul-a Inv-loop μ-loop
-mul-a c = search needs
-
-element-copy-out-a : tie.Need-element-copy-out-a Inv-loop μ-loop
-element-copy-out-a c = search needs
-
-mul-b : tie.Need-mul-b Inv-loop μ-loop
-mul-b c = search needs
-
-element-copy-out-b : tie.Need-element-copy-out-b Inv-loop μ-loop
-element-copy-out-b c = search needs
-
-add-j : tie.Need-add-j Inv-loop μ-loop
-add-j c = search needs
-
-loop-less : tie.Need-loop-less Inv-loop μ-loop
-loop-less c = search needs
-
 loop-again : tie.Need-loop-again Inv-loop μ-loop
 unfolding sumsOf sumsFrom round ofBits
 loop-again c = let l = c .before .before .before .loop in (omega arith, rw (add-one (l .j), ← l .inv .1), rw (add-one (l .j), ← l .inv .2), rw (add-one (l .j), ← l .inv .3), rw (add-one (l .j), ← l .inv .4))
@@ -46,15 +28,5 @@ returns c = let l = c .before .loop in let e : l .j ≡ c .before .before .args 
 pub element-sums-spec : {M : Type 1} → statement M
 element-sums-spec =
     tie.close
-    (tie.spec
-    Inv-loop
-    μ-loop
-    loop-holds
-    mul-a
-    element-copy-out-a
-    mul-b
-    element-copy-out-b
-    add-j
-    loop-less
-    loop-again
-    returns)
+    (tie.spec Inv-loop μ-loop loop-holds (λ c. search needs) (λ c. search needs) (λ c. search needs)
+    (λ c. search needs) (λ c. search needs) (λ c. search needs) loop-again returns)

@@ -18,33 +18,6 @@ loop-holds : tie.Need-loop-holds Inv-loop μ-loop
 unfolding wavesOf filled round ofBits
 loop-holds c = (omega arith, refl)
 
-cast-k : tie.Need-cast-k Inv-loop μ-loop
-cast-k c = search needs
-
-int-to-float-sin-cos : tie.Need-int-to-float-sin-cos Inv-loop μ-loop
-int-to-float-sin-cos c = search needs
-
-sin-cos-requires : tie.Need-sin-cos-requires Inv-loop μ-loop
-sin-cos-requires c κs = search needs
-
-mul-waves : tie.Need-mul-waves Inv-loop μ-loop
-mul-waves c = search needs
-
-element-write-waves : tie.Need-element-write-waves Inv-loop μ-loop
-element-write-waves c = search needs
-
-mul-waves-2 : tie.Need-mul-waves-2 Inv-loop μ-loop
-mul-waves-2 c = search needs
-
-element-write-waves-2 : tie.Need-element-write-waves-2 Inv-loop μ-loop
-element-write-waves-2 c = search needs
-
-add-j : tie.Need-add-j Inv-loop μ-loop
-add-j c = search needs
-
-loop-less : tie.Need-loop-less Inv-loop μ-loop
-loop-less c = search needs
-
 loop-again : tie.Need-loop-again Inv-loop μ-loop
 unfolding wavesOf filled round ofBits
 loop-again c = let l = c .before .before .before .loop in (omega arith, rw (add-one (l .j), ← c .sin-cos .ensures .1, ← c .sin-cos .ensures .0, l .inv .1))
@@ -55,18 +28,6 @@ returns c = let l = c .before .loop in let e : l .j ≡ c .before .before .args 
 pub element-waves-spec : {M : Type 1} → statement M
 element-waves-spec =
     tie.close
-    (tie.spec
-    Inv-loop
-    μ-loop
-    loop-holds
-    cast-k
-    int-to-float-sin-cos
-    sin-cos-requires
-    mul-waves
-    element-write-waves
-    mul-waves-2
-    element-write-waves-2
-    add-j
-    loop-less
-    loop-again
-    returns)
+    (tie.spec Inv-loop μ-loop loop-holds (λ c. search needs) (λ c. search needs) (λ c κs. search needs)
+    (λ c. search needs) (λ c. search needs) (λ c. search needs) (λ c. search needs) (λ c. search needs)
+    (λ c. search needs) loop-again returns)

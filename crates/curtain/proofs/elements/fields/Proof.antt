@@ -4,21 +4,6 @@ use borrow.Author.Needs.{needs}
 use Rattle.curtain.proofs.elements.fields.Statement.{statement}
 use Rattle.curtain.proofs.elements.fields.Tie as tie
 
-sin-cos-requires : tie.Need-sin-cos-requires
-sin-cos-requires c κs = search needs
-
-sin-cos-requires-2 : tie.Need-sin-cos-requires-2
-sin-cos-requires-2 c κs = search needs
-
-element-sums-requires : tie.Need-element-sums-requires
-element-sums-requires c κs = search needs
-
-sqrt-requires : tie.Need-sqrt-requires
-sqrt-requires c κs = search needs
-
-sqrt-requires-2 : tie.Need-sqrt-requires-2
-sqrt-requires-2 c κs = search needs
-
 returns : tie.Need-returns
 unfolding fieldOf round ofBits
 returns c =
@@ -30,10 +15,5 @@ returns c =
 pub fields-spec : {M : Type 1} → statement M
 fields-spec =
     tie.close
-    (tie.spec
-    sin-cos-requires
-    sin-cos-requires-2
-    element-sums-requires
-    sqrt-requires
-    sqrt-requires-2
-    returns)
+    (tie.spec (λ c κs. search needs) (λ c κs. search needs) (λ c κs. search needs) (λ c κs. search needs)
+    (λ c κs. search needs) returns)

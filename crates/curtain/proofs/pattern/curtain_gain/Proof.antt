@@ -4,19 +4,13 @@ use borrow.Author.Needs.{needs}
 use Rattle.curtain.proofs.pattern.curtain_gain.Statement.{statement}
 use Rattle.curtain.proofs.pattern.curtain_gain.Tie as tie
 
-value-requires : tie.Need-value-requires
-value-requires c κs = search needs
-
 returns : tie.Need-returns
 unfolding gainOf round ofBits
 returns c = rw (← c .before .value .ensures, c .if1 .taken)
-
-log10-requires : tie.Need-log10-requires
-log10-requires c κs = search needs
 
 returns-2 : tie.Need-returns-2
 unfolding gainOf round ofBits
 returns-2 c = rw (← c .before .before .value .ensures, c .before .if1 .left, ← c .log10 .ensures)
 
 pub curtain-gain-spec : {M : Type 1} → statement M
-curtain-gain-spec = tie.close (tie.spec value-requires returns log10-requires returns-2)
+curtain-gain-spec = tie.close (tie.spec (λ c κs. search needs) returns (λ c κs. search needs) returns-2)

@@ -4,15 +4,6 @@ use borrow.Author.Needs.{needs}
 use Rattle.curtain.proofs.pattern.fac6.Statement.{statement}
 use Rattle.curtain.proofs.pattern.fac6.Tie as tie
 
-cos-requires : tie.Need-cos-requires
-cos-requires c κs = search needs
-
-sin-requires : tie.Need-sin-requires
-sin-requires c κs = search needs
-
-bays-sum-requires : tie.Need-bays-sum-requires
-bays-sum-requires c κs = search needs
-
 returns : tie.Need-returns
 unfolding fac6Of round ofBits
 returns c = rw (
@@ -22,4 +13,4 @@ returns c = rw (
 )
 
 pub fac6-spec : {M : Type 1} → statement M
-fac6-spec = tie.close (tie.spec cos-requires sin-requires bays-sum-requires returns)
+fac6-spec = tie.close (tie.spec (λ c κs. search needs) (λ c κs. search needs) (λ c κs. search needs) returns)

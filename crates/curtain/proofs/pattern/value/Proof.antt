@@ -3,21 +3,6 @@ use borrow.Author.Needs.{needs}
 use Rattle.curtain.proofs.pattern.value.Statement.{statement}
 use Rattle.curtain.proofs.pattern.value.Tie as tie
 
-fac6-requires : tie.Need-fac6-requires
-fac6-requires c κs = search needs
-
-at-most-ten-requires : tie.Need-at-most-ten-requires
-at-most-ten-requires c κs = search needs
-
-element-waves-requires : tie.Need-element-waves-requires
-element-waves-requires c κs = search needs
-
-fields-requires : tie.Need-fields-requires
-fields-requires c κs = search needs
-
-sqrt-requires : tie.Need-sqrt-requires
-sqrt-requires c κs = search needs
-
 returns : tie.Need-returns
 unfolding valueOf
 returns c = rw (
@@ -32,10 +17,5 @@ returns c = rw (
 pub value-spec : {M : Type 1} → statement M
 value-spec =
     tie.close
-    (tie.spec
-    fac6-requires
-    at-most-ten-requires
-    element-waves-requires
-    fields-requires
-    sqrt-requires
-    returns)
+    (tie.spec (λ c κs. search needs) (λ c κs. search needs) (λ c κs. search needs) (λ c κs. search needs)
+    (λ c κs. search needs) returns)

@@ -4,9 +4,6 @@ use borrow.Author.Needs.{needs}
 use Rattle.curtain.proofs.row.spacing.Statement.{statement}
 use Rattle.curtain.proofs.row.spacing.Tie as tie
 
-abs-requires : tie.Need-abs-requires
-abs-requires c κs = search needs
-
 returns : tie.Need-returns
 unfolding spacingOf round ofBits
 returns c = rw (c .before .if1 .taken, ← c .abs .ensures)
@@ -16,4 +13,4 @@ unfolding spacingOf round ofBits
 returns-2 c = rw (c .if1 .left)
 
 pub spacing-spec : {M : Type 1} → statement M
-spacing-spec = tie.close (tie.spec abs-requires returns returns-2)
+spacing-spec = tie.close (tie.spec (λ c κs. search needs) returns returns-2)

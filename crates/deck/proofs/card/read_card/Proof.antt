@@ -9,12 +9,6 @@ use borrow.Author.Needs.{needs}
 use Rattle.deck.proofs.card.read_card.Statement.{statement}
 use Rattle.deck.proofs.card.read_card.Tie as tie
 
-ioninit-requires : tie.Need-ioninit-requires
-ioninit-requires c κs = search needs
-
-antenna-of-requires : tie.Need-antenna-of-requires
-antenna-of-requires c κs = search needs
-
 returns : tie.Need-returns
 unfolding cardOf
 returns c = let s = c .before .before .before .before .before .before .before .args .fields in
@@ -23,4 +17,4 @@ returns c = let s = c .before .before .before .before .before .before .before .a
     rw (toZ-ofZ w32 (s .first) (search needs), toZ-ofZ w32 (s .last) (search needs), ← params, ← antenna)
 
 pub read-card-spec : {M : Type 1} → statement M
-read-card-spec = tie.close (tie.spec ioninit-requires antenna-of-requires returns)
+read-card-spec = tie.close (tie.spec (λ c κs. search needs) (λ c κs. search needs) returns)

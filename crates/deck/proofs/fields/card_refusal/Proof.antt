@@ -11,18 +11,6 @@ use borrow.Author.Needs.{needs}
 use Rattle.deck.proofs.fields.card_refusal.Statement.{statement}
 use Rattle.deck.proofs.fields.card_refusal.Tie as tie
 
-fields-outside-requires : tie.Need-fields-outside-requires
-fields-outside-requires c κs = search needs
-
-ioninit-requires : tie.Need-ioninit-requires
-ioninit-requires c κs = search needs
-
-is-range-requires : tie.Need-is-range-requires
-is-range-requires c κs = search needs
-
-input-refusal-requires : tie.Need-input-refusal-requires
-input-refusal-requires c κs = search needs
-
 returns : tie.Need-returns
 unfolding fieldsRefusal
 returns c =
@@ -36,9 +24,5 @@ returns c =
 pub card-refusal-spec : {M : Type 1} → statement M
 card-refusal-spec =
     tie.close
-    (tie.spec
-    fields-outside-requires
-    ioninit-requires
-    is-range-requires
-    input-refusal-requires
+    (tie.spec (λ c κs. search needs) (λ c κs. search needs) (λ c κs. search needs) (λ c κs. search needs)
     returns)

@@ -9,9 +9,6 @@ use Rattle.deck.specs.Fields.{wholeOutside}
 use Rattle.deck.proofs.fields.whole_outside.Statement.{statement}
 use Rattle.deck.proofs.fields.whole_outside.Tie as tie
 
-sub-if1 : tie.Need-sub-if1
-sub-if1 c = search needs
-
 -- x is the number as the machine reads it back
 from-below : (n x : ℤ) → x ≡ n → leZ (negsuc 999) x ≡ true → not (leZ x (pos 1000)) ≡ wholeOutside n
 unfolding wholeOutside
@@ -28,4 +25,4 @@ returns-2 : tie.Need-returns-2
 returns-2 c = below _ _ (toZ-ofZ w32 _ (search needs)) (c .if1 .left)
 
 pub whole-outside-spec : {M : Type 1} → statement M
-whole-outside-spec = tie.close (tie.spec sub-if1 returns returns-2)
+whole-outside-spec = tie.close (tie.spec (λ c. search needs) returns returns-2)

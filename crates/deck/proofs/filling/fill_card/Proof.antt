@@ -18,12 +18,6 @@ Inv-loop height table₀ card deltas cosines sines first count x₀ n₀ table x
 abbrev μ-loop : tie.MeasureT-loop
 μ-loop height table₀ card deltas cosines sines first count x₀ n₀ table x n = count - n
 
-read-card-requires : tie.Need-read-card-requires Inv-loop μ-loop
-read-card-requires c κs = search needs
-
-all-columns-requires : tie.Need-all-columns-requires Inv-loop μ-loop
-all-columns-requires c κs = search needs
-
 cast-first : tie.Need-cast-first Inv-loop μ-loop
 cast-first c = rows-of (c .before .before .before .before .before .before .read-card .result) (c .before .before .before .before .before .before .before .before .args .fields) (c .before .before .before .before .before .before .read-card .ensures) (c .before .before .before .before .before .before .before .before .pre .1) .firstFits
 
@@ -41,15 +35,6 @@ loop-holds c = λ f e p. card-start theAntenna theLaws f _ _
 
 add-fill-row : tie.Need-add-fill-row Inv-loop μ-loop
 add-fill-row c = let at = rows-of (c .before .before .before .before .before .before .before .before .before .before .read-card .result) (c .before .before .before .before .before .before .before .before .before .before .before .before .args .fields) (c .before .before .before .before .before .before .before .before .before .before .read-card .ensures) (c .before .before .before .before .before .before .before .before .before .before .before .before .pre .1) in omega (arith, at .high, at .order, c .loop-test .taken)
-
-slice-aggregate-fill-row : tie.Need-slice-aggregate-fill-row Inv-loop μ-loop
-slice-aggregate-fill-row c = search needs
-
-slice-aggregate-fill-row-2 : tie.Need-slice-aggregate-fill-row-2 Inv-loop μ-loop
-slice-aggregate-fill-row-2 c = search needs
-
-slice-aggregate-fill-row-3 : tie.Need-slice-aggregate-fill-row-3 Inv-loop μ-loop
-slice-aggregate-fill-row-3 c = search needs
 
 fill-row-requires : tie.Need-fill-row-requires Inv-loop μ-loop
 fill-row-requires c κs = let at = rows-of (c .before .before .before .before .before .before .before .before .before .before .before .before .before .before .read-card .result) (c .before .before .before .before .before .before .before .before .before .before .before .before .before .before .before .before .args .fields) (c .before .before .before .before .before .before .before .before .before .before .before .before .before .before .read-card .ensures) (c .before .before .before .before .before .before .before .before .before .before .before .before .before .before .before .before .pre .1) in (c .before .before .before .before .before .loop .inv (c .before .before .before .before .before .before .before .before .before .before .before .before .before .before .before .before .args .fields) (c .before .before .before .before .before .before .before .before .before .before .before .before .before .before .read-card .ensures) (c .before .before .before .before .before .before .before .before .before .before .before .before .before .before .before .before .pre .1) .length ∙ c .before .before .before .before .before .before .before .before .before .before .before .before .before .before .before .before .pre .0, omega (arith, at .low), omega (arith, at .high, at .order, c .before .before .before .before .loop-test .taken), c .before .before .before .before .before .before .before .before .before .before .before .before .before .all-columns .ensures)
@@ -78,25 +63,6 @@ returns-2 c = rows-end _ _ (c .before .before .before .before .before .before .b
 pub fill-card-spec : {M : Type 1} → statement M
 fill-card-spec =
     tie.close
-    (tie.spec
-    Inv-loop
-    μ-loop
-    read-card-requires
-    all-columns-requires
-    cast-first
-    cast-count
-    sub-count
-    add-count
-    loop-holds
-    add-fill-row
-    slice-aggregate-fill-row
-    slice-aggregate-fill-row-2
-    slice-aggregate-fill-row-3
-    fill-row-requires
-    same-length
-    returns
-    add-n
-    loop-less
-    loop-again
-    same-length-2
-    returns-2)
+    (tie.spec Inv-loop μ-loop (λ c κs. search needs) (λ c κs. search needs) cast-first cast-count sub-count
+    add-count loop-holds add-fill-row (λ c. search needs) (λ c. search needs) (λ c. search needs)
+    fill-row-requires same-length returns add-n loop-less loop-again same-length-2 returns-2)

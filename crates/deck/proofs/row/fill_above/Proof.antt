@@ -17,53 +17,11 @@ Inv-loop row up azimuth m deltas cosines sines table₀ base d₀ table d = Stor
 abbrev μ-loop : tie.MeasureT-loop
 μ-loop row up azimuth m deltas cosines sines table₀ base d₀ table d = 91 - d
 
-sub-base : tie.Need-sub-base Inv-loop μ-loop
-sub-base c = omega arith
-
-mul-base : tie.Need-mul-base Inv-loop μ-loop
-mul-base c = omega arith
-
 loop-holds : tie.Need-loop-holds Inv-loop μ-loop
 loop-holds c = stored-start _ _ _
 
-mul-elevation-of : tie.Need-mul-elevation-of Inv-loop μ-loop
-mul-elevation-of c = search needs
-
-shared-slice-read-elevation-of : tie.Need-shared-slice-read-elevation-of Inv-loop μ-loop
-shared-slice-read-elevation-of c = search needs
-
-mul-elevation-of-2 : tie.Need-mul-elevation-of-2 Inv-loop μ-loop
-mul-elevation-of-2 c = search needs
-
-shared-slice-read-elevation-of-2 : tie.Need-shared-slice-read-elevation-of-2 Inv-loop μ-loop
-shared-slice-read-elevation-of-2 c = search needs
-
-elevation-of-requires : tie.Need-elevation-of-requires Inv-loop μ-loop
-elevation-of-requires c κs = search needs
-
-mul-cell-gain : tie.Need-mul-cell-gain Inv-loop μ-loop
-mul-cell-gain c = search needs
-
-shared-slice-read-cell-gain : tie.Need-shared-slice-read-cell-gain Inv-loop μ-loop
-shared-slice-read-cell-gain c = search needs
-
-cell-gain-requires : tie.Need-cell-gain-requires Inv-loop μ-loop
-cell-gain-requires c κs = search needs
-
-add-table : tie.Need-add-table Inv-loop μ-loop
-add-table c = omega arith
-
-mul-table : tie.Need-mul-table Inv-loop μ-loop
-mul-table c = search needs
-
 slice-write-table : tie.Need-slice-write-table Inv-loop μ-loop
 slice-write-table c = omega (arith, c .before .before .before .before .before .before .loop .inv .length)
-
-add-d : tie.Need-add-d Inv-loop μ-loop
-add-d c = omega arith
-
-loop-less : tie.Need-loop-less Inv-loop μ-loop
-loop-less c = omega arith
 
 loop-again : tie.Need-loop-again Inv-loop μ-loop
 loop-again c = let columns = c .before .before .before .before .before .before .before .before .before .before .before .pre .3 in
@@ -80,25 +38,7 @@ returns c = (stored-done _ _ _ _ _ (c .before .loop .inv) (c .loop-test .left), 
 pub fill-above-spec : {M : Type 1} → statement M
 fill-above-spec =
     tie.close
-    (tie.spec
-    Inv-loop
-    μ-loop
-    sub-base
-    mul-base
-    loop-holds
-    mul-elevation-of
-    shared-slice-read-elevation-of
-    mul-elevation-of-2
-    shared-slice-read-elevation-of-2
-    elevation-of-requires
-    mul-cell-gain
-    shared-slice-read-cell-gain
-    cell-gain-requires
-    add-table
-    mul-table
-    slice-write-table
-    add-d
-    loop-less
-    loop-again
-    same-length
-    returns)
+    (tie.spec Inv-loop μ-loop (λ c. omega arith) (λ c. omega arith) loop-holds (λ c. search needs)
+    (λ c. search needs) (λ c. search needs) (λ c. search needs) (λ c κs. search needs) (λ c. search needs)
+    (λ c. search needs) (λ c κs. search needs) (λ c. omega arith) (λ c. search needs) slice-write-table
+    (λ c. omega arith) (λ c. omega arith) loop-again same-length returns)

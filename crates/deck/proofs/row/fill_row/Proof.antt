@@ -10,47 +10,14 @@ use borrow.Author.Needs.{needs}
 use Rattle.deck.proofs.row.fill_row.Statement.{statement}
 use Rattle.deck.proofs.row.fill_row.Tie as tie
 
-cast-mhz : tie.Need-cast-mhz
-cast-mhz c = search needs
-
-int-to-float-row-of : tie.Need-int-to-float-row-of
-int-to-float-row-of c = search needs
-
-row-of-requires : tie.Need-row-of-requires
-row-of-requires c κs = search needs
-
-enum-known-row : tie.Need-enum-known-row
-enum-known-row c = search needs
-
 enum-told : tie.Need-enum-told
 enum-told c = search needs
 
 returns : tie.Need-returns
 returns c = row-unsettled _ _ _ _ _ (sym (c .before .before .row-of .ensures) ∙ c .enum-told .given .1)
 
-up-for-requires : tie.Need-up-for-requires
-up-for-requires c κs = search needs
-
-shared-slice-read-elevation-of : tie.Need-shared-slice-read-elevation-of
-shared-slice-read-elevation-of c = search needs
-
-shared-slice-read-elevation-of-2 : tie.Need-shared-slice-read-elevation-of-2
-shared-slice-read-elevation-of-2 c = search needs
-
-elevation-of-requires : tie.Need-elevation-of-requires
-elevation-of-requires c κs = search needs
-
-ground-cell-requires : tie.Need-ground-cell-requires
-ground-cell-requires c κs = search needs
-
 sub-table : tie.Need-sub-table
 sub-table c = omega (arith, c .before .before .before .before .before .before .before .before .before .before .before .before .before .before .before .before .pre .0, c .before .before .before .before .before .before .before .before .before .before .before .before .before .before .before .before .pre .1, c .before .before .before .before .before .before .before .before .before .before .before .before .before .before .before .before .pre .2)
-
-mul-table : tie.Need-mul-table
-mul-table c = search needs
-
-mul-table-2 : tie.Need-mul-table-2
-mul-table-2 c = search needs
 
 slice-write-table : tie.Need-slice-write-table
 slice-write-table c = omega (arith, c .before .before .before .before .before .before .before .before .before .before .before .before .before .before .before .before .pre .0, c .before .before .before .before .before .before .before .before .before .before .before .before .before .before .before .before .pre .1, c .before .before .before .before .before .before .before .before .before .before .before .before .before .before .before .before .pre .2)
@@ -82,26 +49,7 @@ returns-2 c =
 pub fill-row-spec : {M : Type 1} → statement M
 fill-row-spec =
     tie.close
-    (tie.spec
-    cast-mhz
-    int-to-float-row-of
-    row-of-requires
-    enum-known-row
-    enum-told
-    returns
-    up-for-requires
-    shared-slice-read-elevation-of
-    shared-slice-read-elevation-of-2
-    elevation-of-requires
-    ground-cell-requires
-    sub-table
-    mul-table
-    mul-table-2
-    slice-write-table
-    fill-above-requires
-    sub-table-2
-    add-table
-    mul-table-3
-    slice-write-table-2
-    same-length
-    returns-2)
+    (tie.spec (λ c. search needs) (λ c. search needs) (λ c κs. search needs) (λ c. search needs) enum-told
+    returns (λ c κs. search needs) (λ c. search needs) (λ c. search needs) (λ c κs. search needs)
+    (λ c κs. search needs) sub-table (λ c. search needs) (λ c. search needs) slice-write-table
+    fill-above-requires sub-table-2 add-table mul-table-3 slice-write-table-2 same-length returns-2)

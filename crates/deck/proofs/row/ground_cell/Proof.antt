@@ -9,15 +9,6 @@ use borrow.Author.Needs.{needs}
 use Rattle.deck.proofs.row.ground_cell.Statement.{statement}
 use Rattle.deck.proofs.row.ground_cell.Tie as tie
 
-ground-gain-requires : tie.Need-ground-gain-requires
-ground-gain-requires c κs = search needs
-
-looks-up-requires : tie.Need-looks-up-requires
-looks-up-requires c κs = search needs
-
-blend-requires : tie.Need-blend-requires
-blend-requires c κs = search needs
-
 returns : tie.Need-returns
 unfolding groundCell
 returns c = let s = c .before .before .before .before .args in
@@ -36,4 +27,5 @@ returns-2 c = let s = c .before .before .before .args in
 
 pub ground-cell-spec : {M : Type 1} → statement M
 ground-cell-spec =
-    tie.close (tie.spec ground-gain-requires looks-up-requires blend-requires returns returns-2)
+    tie.close
+    (tie.spec (λ c κs. search needs) (λ c κs. search needs) (λ c κs. search needs) returns returns-2)

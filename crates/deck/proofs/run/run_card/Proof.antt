@@ -9,32 +9,11 @@ use borrow.Author.Needs.{needs}
 use Rattle.deck.proofs.run.run_card.Statement.{statement}
 use Rattle.deck.proofs.run.run_card.Tie as tie
 
-screen-requires : tie.Need-screen-requires
-screen-requires c κs = search needs
-
-clear-refused-requires : tie.Need-clear-refused-requires
-clear-refused-requires c κs = search needs
-
-refused-deck-requires : tie.Need-refused-deck-requires
-refused-deck-requires c κs = search needs
-
-same-length : tie.Need-same-length
-same-length c = search needs
-
 returns : tie.Need-returns
 returns c = entry-screened theAntenna theLaws countLimit _ _ _ _ _ _ (c .before .before .before .before .before .before .screen .ensures) (c .before .if1 .taken) (c .before .before .before .before .clear-refused .ensures) (c .refused-deck .ensures ∙ within _ _ (λ ne. screen-room theAntenna theLaws countLimit _ _ _ _ (c .before .before .before .before .before .before .screen .ensures) ne))
 
 fill-card-requires : tie.Need-fill-card-requires
 fill-card-requires c κs = let p = screen-passed theAntenna theLaws countLimit _ _ _ (sym (c .before .before .before .before .before .before .screen .ensures) ∙ c .before .if1 .left) in (cleared-length-of _ _ (p .table) (c .before .before .before .before .clear-refused .ensures), p .input)
-
-clear-refused-requires-2 : tie.Need-clear-refused-requires-2
-clear-refused-requires-2 c κs = search needs
-
-refused-deck-requires-2 : tie.Need-refused-deck-requires-2
-refused-deck-requires-2 c κs = search needs
-
-same-length-2 : tie.Need-same-length-2
-same-length-2 c = search needs
 
 returns-2 : tie.Need-returns-2
 returns-2 c = entry-refused theAntenna theLaws countLimit _ _ _ _ _ _ _ _ _ (sym (c .before .before .before .before .before .before .before .before .before .before .before .if1 .left) ∙ c .before .before .before .before .before .before .before .before .before .before .before .before .before .before .before .before .screen .ensures) (c .before .before .before .before .before .before .before .before .before .before .before .before .before .before .clear-refused .ensures) (c .before .before .before .before .before .before .before .before .before .fill-card .ensures) (c .before .before .before .before .before .if2 .taken) (c .before .before .before .clear-refused2 .ensures) (c .refused-deck2 .ensures ∙ within _ _ (λ ne. screen-passed theAntenna theLaws countLimit _ _ _ (sym (c .before .before .before .before .before .before .before .before .before .before .before .before .before .before .before .before .screen .ensures) ∙ c .before .before .before .before .before .before .before .before .before .before .before .if1 .left) .room))
@@ -42,26 +21,12 @@ returns-2 c = entry-refused theAntenna theLaws countLimit _ _ _ _ _ _ _ _ _ (sym
 add-t19 : tie.Need-add-t19
 add-t19 c = let p = screen-passed theAntenna theLaws countLimit _ _ _ (sym (c .before .before .before .before .before .before .before .before .before .before .before .before .screen .ensures) ∙ c .before .before .before .before .before .before .before .if1 .left) in omega (arith, p .room)
 
-same-length-3 : tie.Need-same-length-3
-same-length-3 c = search needs
-
 returns-3 : tie.Need-returns-3
 returns-3 c = entry-accepted theAntenna theLaws countLimit _ _ _ _ _ _ _ (sym (c .before .before .before .before .before .before .before .if1 .left) ∙ c .before .before .before .before .before .before .before .before .before .before .before .before .screen .ensures) (c .before .before .before .before .before .before .before .before .before .before .clear-refused .ensures) (c .before .before .before .before .before .fill-card .ensures) (c .before .if2 .left)
 
 pub run-card-spec : {M : Type 1} → statement M
 run-card-spec =
     tie.close
-    (tie.spec
-    screen-requires
-    clear-refused-requires
-    refused-deck-requires
-    same-length
-    returns
-    fill-card-requires
-    clear-refused-requires-2
-    refused-deck-requires-2
-    same-length-2
-    returns-2
-    add-t19
-    same-length-3
-    returns-3)
+    (tie.spec (λ c κs. search needs) (λ c κs. search needs) (λ c κs. search needs) (λ c. search needs) returns
+    fill-card-requires (λ c κs. search needs) (λ c κs. search needs) (λ c. search needs) returns-2 add-t19
+    (λ c. search needs) returns-3)

@@ -4,17 +4,11 @@ use borrow.Author.Needs.{needs}
 use Rattle.deck.proofs.run.screen.Statement.{statement}
 use Rattle.deck.proofs.run.screen.Tie as tie
 
-state-refusal-requires : tie.Need-state-refusal-requires
-state-refusal-requires c κs = search needs
-
 returns : tie.Need-returns
 returns c = c .before .state-refusal .ensures ∙ sym (state-screens _ _ _ (λ z. c .if1 .taken (c .before .state-refusal .ensures ∙ z)))
-
-card-refusal-requires : tie.Need-card-refusal-requires
-card-refusal-requires c κs = search needs
 
 returns-2 : tie.Need-returns-2
 returns-2 c = c .card-refusal .ensures ∙ sym (fields-screen _ _ _ (sym (c .before .before .state-refusal .ensures) ∙ c .before .if1 .left))
 
 pub screen-spec : {M : Type 1} → statement M
-screen-spec = tie.close (tie.spec state-refusal-requires returns card-refusal-requires returns-2)
+screen-spec = tie.close (tie.spec (λ c κs. search needs) returns (λ c κs. search needs) returns-2)

@@ -11,61 +11,9 @@ Inv-loop removed a₀ b₀ with₀ without₀ verdicts₀ numbers₀ k₀ a b wi
 abbrev μ-loop : tie.MeasureT-loop
 μ-loop removed a₀ b₀ with₀ without₀ verdicts₀ numbers₀ k₀ a b with without verdicts numbers k = 11 - k
 
-fresh-requires : tie.Need-fresh-requires Inv-loop μ-loop
-fresh-requires c κs = search needs
-
-fresh-requires-2 : tie.Need-fresh-requires-2 Inv-loop μ-loop
-fresh-requires-2 c κs = search needs
-
-loop-holds : tie.Need-loop-holds Inv-loop μ-loop
-loop-holds c = search needs
-
-run-on-both-requires : tie.Need-run-on-both-requires Inv-loop μ-loop
-run-on-both-requires c κs = search needs
-
-add-verdicts : tie.Need-add-verdicts Inv-loop μ-loop
-add-verdicts c = search needs
-
-add-numbers : tie.Need-add-numbers Inv-loop μ-loop
-add-numbers c = search needs
-
-add-k : tie.Need-add-k Inv-loop μ-loop
-add-k c = search needs
-
-loop-less : tie.Need-loop-less Inv-loop μ-loop
-loop-less c = search needs
-
-loop-again : tie.Need-loop-again Inv-loop μ-loop
-loop-again c = search needs
-
-print-counts-requires : tie.Need-print-counts-requires Inv-loop μ-loop
-print-counts-requires c κs = search needs
-
-same-length : tie.Need-same-length Inv-loop μ-loop
-same-length c = search needs
-
-same-length-2 : tie.Need-same-length-2 Inv-loop μ-loop
-same-length-2 c = search needs
-
-returns : tie.Need-returns Inv-loop μ-loop
-returns c = search needs
-
 pub compare-without-spec : {M : Type 1} → statement M
 compare-without-spec =
     tie.close
-    (tie.spec
-    Inv-loop
-    μ-loop
-    fresh-requires
-    fresh-requires-2
-    loop-holds
-    run-on-both-requires
-    add-verdicts
-    add-numbers
-    add-k
-    loop-less
-    loop-again
-    print-counts-requires
-    same-length
-    same-length-2
-    returns)
+    (tie.spec Inv-loop μ-loop (λ c κs. search needs) (λ c κs. search needs) (λ c. search needs)
+    (λ c κs. search needs) (λ c. search needs) (λ c. search needs) (λ c. search needs) (λ c. search needs)
+    (λ c. search needs) (λ c κs. search needs) (λ c. search needs) (λ c. search needs) (λ c. search needs))

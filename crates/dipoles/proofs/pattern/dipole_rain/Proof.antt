@@ -4,15 +4,6 @@ use borrow.Author.Needs.{needs}
 use Rattle.dipoles.proofs.pattern.dipole_rain.Statement.{statement}
 use Rattle.dipoles.proofs.pattern.dipole_rain.Tie as tie
 
-interference-of-requires : tie.Need-interference-of-requires
-interference-of-requires c κs = search needs
-
-interference-of-requires-2 : tie.Need-interference-of-requires-2
-interference-of-requires-2 c κs = search needs
-
-cos-requires : tie.Need-cos-requires
-cos-requires c κs = search needs
-
 returns : tie.Need-returns
 unfolding dipoleRain round ofBits
 returns c = rw (
@@ -23,4 +14,5 @@ returns c = rw (
 
 pub dipole-rain-spec : {M : Type 1} → statement M
 dipole-rain-spec =
-    tie.close (tie.spec interference-of-requires interference-of-requires-2 cos-requires returns)
+    tie.close
+    (tie.spec (λ c κs. search needs) (λ c κs. search needs) (λ c κs. search needs) returns)

@@ -4,12 +4,9 @@ use borrow.Author.Needs.{needs}
 use Rattle.dipoles.proofs.pattern.interference_of.Statement.{statement}
 use Rattle.dipoles.proofs.pattern.interference_of.Tie as tie
 
-cos-requires : tie.Need-cos-requires
-cos-requires c κs = search needs
-
 returns : tie.Need-returns
 unfolding interference round ofBits
 returns c = rw (← c .cos .ensures)
 
 pub interference-of-spec : {M : Type 1} → statement M
-interference-of-spec = tie.close (tie.spec cos-requires returns)
+interference-of-spec = tie.close (tie.spec (λ c κs. search needs) returns)

@@ -4,15 +4,6 @@ use borrow.Author.Needs.{needs}
 use Rattle.dipoles.proofs.row.resistance_of.Statement.{statement}
 use Rattle.dipoles.proofs.row.resistance_of.Tie as tie
 
-cot-requires : tie.Need-cot-requires
-cot-requires c κs = search needs
-
-ln-requires : tie.Need-ln-requires
-ln-requires c κs = search needs
-
-ln-requires-2 : tie.Need-ln-requires-2
-ln-requires-2 c κs = search needs
-
 returns : tie.Need-returns
 unfolding resistance round ofBits
 returns c = rw (
@@ -22,4 +13,6 @@ returns c = rw (
 )
 
 pub resistance-of-spec : {M : Type 1} → statement M
-resistance-of-spec = tie.close (tie.spec cot-requires ln-requires ln-requires-2 returns)
+resistance-of-spec =
+    tie.close
+    (tie.spec (λ c κs. search needs) (λ c κs. search needs) (λ c κs. search needs) returns)

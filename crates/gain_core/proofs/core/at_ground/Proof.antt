@@ -9,18 +9,6 @@ use borrow.Author.Needs.{needs}
 use Rattle.gain_core.proofs.core.at_ground.Statement.{statement}
 use Rattle.gain_core.proofs.core.at_ground.Tie as tie
 
-ground-gain-requires : tie.Need-ground-gain-requires
-ground-gain-requires c κs = search needs
-
-looks-up-requires : tie.Need-looks-up-requires
-looks-up-requires c κs = search needs
-
-row-of-requires : tie.Need-row-of-requires
-row-of-requires c κs = search needs
-
-enum-known-row : tie.Need-enum-known-row
-enum-known-row c = search needs
-
 enum-told : tie.Need-enum-told
 enum-told c = search needs
 
@@ -31,12 +19,6 @@ returns c = let s = c .before .before .before .before .before .before .before .a
     let e : c .before .before .before .before .looks-up .result ≡ looksUp (s .antenna .kop) = (c .before .before .before .before .looks-up .ensures) ∙ ap looksUp back in
     let low : c .before .before .before .before .before .ground-gain .result ≡ groundOf (s .antenna .kop) (s .height) = (c .before .before .before .before .before .ground-gain .ensures) ∙ ap (λ (k : ℤ). groundOf k (s .height)) back in
     rw (← low, ← e, c .before .before .before .if1 .taken, ← c .before .before .row-of .ensures, c .enum-told .given .1)
-
-straight-up-requires : tie.Need-straight-up-requires
-straight-up-requires c κs = search needs
-
-blend-requires : tie.Need-blend-requires
-blend-requires c κs = search needs
 
 returns-2 : tie.Need-returns-2
 unfolding atGround
@@ -57,14 +39,5 @@ returns-3 c = let s = c .before .before .before .before .args in
 pub at-ground-spec : {M : Type 1} → statement M
 at-ground-spec =
     tie.close
-    (tie.spec
-    ground-gain-requires
-    looks-up-requires
-    row-of-requires
-    enum-known-row
-    enum-told
-    returns
-    straight-up-requires
-    blend-requires
-    returns-2
-    returns-3)
+    (tie.spec (λ c κs. search needs) (λ c κs. search needs) (λ c κs. search needs) (λ c. search needs)
+    enum-told returns (λ c κs. search needs) (λ c κs. search needs) returns-2 returns-3)

@@ -8,12 +8,6 @@ use borrow.Author.Needs.{needs}
 use Rattle.gain_core.proofs.core.up_for.Statement.{statement}
 use Rattle.gain_core.proofs.core.up_for.Tie as tie
 
-looks-up-requires : tie.Need-looks-up-requires
-looks-up-requires c κs = search needs
-
-straight-up-requires : tie.Need-straight-up-requires
-straight-up-requires c κs = search needs
-
 returns : tie.Need-returns
 unfolding upFor
 returns c = let row = c .before .before .before .before .args .row in
@@ -27,4 +21,4 @@ returns-2 c = let row = c .before .before .before .args .row in
     rw (← e, c .if1 .left)
 
 pub up-for-spec : {M : Type 1} → statement M
-up-for-spec = tie.close (tie.spec looks-up-requires straight-up-requires returns returns-2)
+up-for-spec = tie.close (tie.spec (λ c κs. search needs) (λ c κs. search needs) returns returns-2)

@@ -4,12 +4,6 @@ use borrow.Author.Needs.{needs}
 use Rattle.integrals.proofs.entry.cisi.Statement.{statement}
 use Rattle.integrals.proofs.entry.cisi.Tie as tie
 
-integrals-of-requires : tie.Need-integrals-of-requires
-integrals-of-requires c κs = search needs
-
-enum-known-values : tie.Need-enum-known-values
-enum-known-values c = search needs
-
 enum-told : tie.Need-enum-told
 enum-told c = search needs
 
@@ -32,11 +26,4 @@ returns-4 c = (rw (c .if1 .left), rw (c .if1 .left))
 pub cisi-spec : {M : Type 1} → statement M
 cisi-spec =
     tie.close
-    (tie.spec
-    integrals-of-requires
-    enum-known-values
-    enum-told
-    returns
-    returns-2
-    returns-3
-    returns-4)
+    (tie.spec (λ c κs. search needs) (λ c. search needs) enum-told returns returns-2 returns-3 returns-4)

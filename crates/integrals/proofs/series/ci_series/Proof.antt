@@ -4,15 +4,9 @@ use borrow.Author.Needs.{needs}
 use Rattle.integrals.proofs.series.ci_series.Statement.{statement}
 use Rattle.integrals.proofs.series.ci_series.Tie as tie
 
-ln-requires : tie.Need-ln-requires
-ln-requires c κs = search needs
-
-sum-series-requires : tie.Need-sum-series-requires
-sum-series-requires c κs = search needs
-
 returns : tie.Need-returns
 unfolding ciSeries round ofBits
 returns c = rw (← c .before .ln .ensures) (c .sum-series .ensures)
 
 pub ci-series-spec : {M : Type 1} → statement M
-ci-series-spec = tie.close (tie.spec ln-requires sum-series-requires returns)
+ci-series-spec = tie.close (tie.spec (λ c κs. search needs) (λ c κs. search needs) returns)

@@ -4,12 +4,9 @@ use borrow.Author.Needs.{needs}
 use Rattle.integrals.proofs.series.si_series.Statement.{statement}
 use Rattle.integrals.proofs.series.si_series.Tie as tie
 
-sum-series-requires : tie.Need-sum-series-requires
-sum-series-requires c κs = search needs
-
 returns : tie.Need-returns
 unfolding siSeries round ofBits
 returns c = c .sum-series .ensures
 
 pub si-series-spec : {M : Type 1} → statement M
-si-series-spec = tie.close (tie.spec sum-series-requires returns)
+si-series-spec = tie.close (tie.spec (λ c κs. search needs) returns)

@@ -48,15 +48,6 @@ loop-holds : tie.Need-loop-holds Inv-loop μ-loop
 unfolding seriesOf
 loop-holds c = (omega arith, refl)
 
-add-turns : tie.Need-add-turns Inv-loop μ-loop
-add-turns c = omega arith
-
-abs-requires : tie.Need-abs-requires Inv-loop μ-loop
-abs-requires c κs = search needs
-
-loop-less : tie.Need-loop-less Inv-loop μ-loop
-loop-less c = omega arith
-
 loop-again : tie.Need-loop-again Inv-loop μ-loop
 unfolding round ofBits
 loop-again c =
@@ -78,13 +69,5 @@ returns-2 c =
 pub sum-series-spec : {M : Type 1} → statement M
 sum-series-spec =
     tie.close
-    (tie.spec
-    Inv-loop
-    μ-loop
-    loop-holds
-    add-turns
-    abs-requires
-    loop-less
-    loop-again
-    returns
-    returns-2)
+    (tie.spec Inv-loop μ-loop loop-holds (λ c. omega arith) (λ c κs. search needs) (λ c. omega arith)
+    loop-again returns returns-2)

@@ -4,30 +4,6 @@ use borrow.Author.Needs.{needs}
 use Rattle.interlaced.proofs.interlaced.interlaced_rain.Statement.{statement}
 use Rattle.interlaced.proofs.interlaced.interlaced_rain.Tie as tie
 
-elfac-requires : tie.Need-elfac-requires
-elfac-requires c κs = search needs
-
-y-of-requires : tie.Need-y-of-requires
-y-of-requires c κs = search needs
-
-sin-cos-requires : tie.Need-sin-cos-requires
-sin-cos-requires c κs = search needs
-
-sin-cos-requires-2 : tie.Need-sin-cos-requires-2
-sin-cos-requires-2 c κs = search needs
-
-sin-cos-requires-3 : tie.Need-sin-cos-requires-3
-sin-cos-requires-3 c κs = search needs
-
-sin-cos-requires-4 : tie.Need-sin-cos-requires-4
-sin-cos-requires-4 c κs = search needs
-
-hk-of-requires : tie.Need-hk-of-requires
-hk-of-requires c κs = search needs
-
-hk-of-requires-2 : tie.Need-hk-of-requires-2
-hk-of-requires-2 c κs = search needs
-
 returns : tie.Need-returns
 unfolding zOf sineCosine interlacedOf round ofBits
 returns c = rw (
@@ -48,13 +24,5 @@ returns c = rw (
 pub interlaced-rain-spec : {M : Type 1} → statement M
 interlaced-rain-spec =
     tie.close
-    (tie.spec
-    elfac-requires
-    y-of-requires
-    sin-cos-requires
-    sin-cos-requires-2
-    sin-cos-requires-3
-    sin-cos-requires-4
-    hk-of-requires
-    hk-of-requires-2
-    returns)
+    (tie.spec (λ c κs. search needs) (λ c κs. search needs) (λ c κs. search needs) (λ c κs. search needs)
+    (λ c κs. search needs) (λ c κs. search needs) (λ c κs. search needs) (λ c κs. search needs) returns)

@@ -4,12 +4,9 @@ use borrow.Author.Needs.{needs}
 use Rattle.interlaced.proofs.interlaced.offset_of.Statement.{statement}
 use Rattle.interlaced.proofs.interlaced.offset_of.Tie as tie
 
-sqrt-requires : tie.Need-sqrt-requires
-sqrt-requires c κs = search needs
-
 returns : tie.Need-returns
 unfolding offsetOf round ofBits
 returns c = rw (← c .sqrt .ensures)
 
 pub offset-of-spec : {M : Type 1} → statement M
-offset-of-spec = tie.close (tie.spec sqrt-requires returns)
+offset-of-spec = tie.close (tie.spec (λ c κs. search needs) returns)

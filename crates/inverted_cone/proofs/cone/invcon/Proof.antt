@@ -5,18 +5,9 @@ use borrow.Author.Needs.{needs}
 use Rattle.inverted_cone.proofs.cone.invcon.Statement.{statement}
 use Rattle.inverted_cone.proofs.cone.invcon.Tie as tie
 
-slice-aggregate-any-outside : tie.Need-slice-aggregate-any-outside
-slice-aggregate-any-outside c = search needs
-
-any-outside-requires : tie.Need-any-outside-requires
-any-outside-requires c κs = search needs
-
 returns : tie.Need-returns
 unfolding coneGainNumber coneGainValue invconNumber invconValue firstRefusal round ofBits
 returns c = (rw (← c .before .any-outside .ensures, c .if1 .taken), rw (← c .before .any-outside .ensures, c .if1 .taken))
-
-cone-value-requires : tie.Need-cone-value-requires
-cone-value-requires c κs = search needs
 
 returns-2 : tie.Need-returns-2
 unfolding coneGainNumber coneGainValue invconNumber invconValue firstRefusal round ofBits
@@ -25,9 +16,4 @@ returns-2 c = (rw (← c .before .before .any-outside .ensures, c .before .if1 .
 pub invcon-spec : {M : Type 1} → statement M
 invcon-spec =
     tie.close
-    (tie.spec
-    slice-aggregate-any-outside
-    any-outside-requires
-    returns
-    cone-value-requires
-    returns-2)
+    (tie.spec (λ c. search needs) (λ c κs. search needs) returns (λ c κs. search needs) returns-2)

@@ -35,30 +35,15 @@ loop-holds : tie.Need-loop-holds Inv-loop μ-loop
 unfolding upperOf
 loop-holds c = (omega arith, omega arith, refl)
 
-mul-if1 : tie.Need-mul-if1 Inv-loop μ-loop
-mul-if1 c = search needs
-
-shared-slice-read-if1 : tie.Need-shared-slice-read-if1 Inv-loop μ-loop
-shared-slice-read-if1 c = search needs
-
 returns : tie.Need-returns Inv-loop μ-loop
 returns c =
     let l = c .before .before .before .loop in
     (sym (found _ _ (l .i) (c .before .before .loop-test .taken) (c .if1 .taken)) ∙ l .inv .2, l .inv .0, c .before .before .loop-test .taken)
 
-add-i : tie.Need-add-i Inv-loop μ-loop
-add-i c = search needs
-
-loop-less : tie.Need-loop-less Inv-loop μ-loop
-loop-less c = search needs
-
 loop-again : tie.Need-loop-again Inv-loop μ-loop
 loop-again c =
     let l = c .before .before .before .loop in
     (omega arith, omega arith, passed _ _ (l .i) (c .before .before .loop-test .taken) (c .if1 .left) ∙ l .inv .2)
-
-sub-result : tie.Need-sub-result Inv-loop μ-loop
-sub-result c = search needs
 
 returns-2 : tie.Need-returns-2 Inv-loop μ-loop
 returns-2 c =
@@ -70,15 +55,5 @@ returns-2 c =
 pub upper-spec : {M : Type 1} → statement M
 upper-spec =
     tie.close
-    (tie.spec
-    Inv-loop
-    μ-loop
-    loop-holds
-    mul-if1
-    shared-slice-read-if1
-    returns
-    add-i
-    loop-less
-    loop-again
-    sub-result
-    returns-2)
+    (tie.spec Inv-loop μ-loop loop-holds (λ c. search needs) (λ c. search needs) returns (λ c. search needs)
+    (λ c. search needs) loop-again (λ c. search needs) returns-2)

@@ -4,9 +4,6 @@ use borrow.Author.Needs.{needs}
 use Rattle.inverted_l.proofs.inverted_l.eff8_of.Statement.{statement}
 use Rattle.inverted_l.proofs.inverted_l.eff8_of.Tie as tie
 
-log10-requires : tie.Need-log10-requires
-log10-requires c κs = search needs
-
 returns : tie.Need-returns
 unfolding eff8Of round ofBits
 returns c = rw (c .before .if1 .taken, ← c .log10 .ensures)
@@ -16,4 +13,4 @@ unfolding eff8Of round ofBits
 returns-2 c = rw (c .if1 .left)
 
 pub eff8-of-spec : {M : Type 1} → statement M
-eff8-of-spec = tie.close (tie.spec log10-requires returns returns-2)
+eff8-of-spec = tie.close (tie.spec (λ c κs. search needs) returns returns-2)

@@ -8,15 +8,6 @@ returns : tie.Need-returns
 unfolding f1Of round ofBits
 returns c = rw (c .if1 .taken)
 
-sin-cos-requires : tie.Need-sin-cos-requires
-sin-cos-requires c κs = search needs
-
-bprim-of-requires : tie.Need-bprim-of-requires
-bprim-of-requires c κs = search needs
-
-cos-requires : tie.Need-cos-requires
-cos-requires c κs = search needs
-
 returns-2 : tie.Need-returns-2
 unfolding f1Of round ofBits
 returns-2 c = rw (
@@ -28,4 +19,6 @@ returns-2 c = rw (
 )
 
 pub f1-spec : {M : Type 1} → statement M
-f1-spec = tie.close (tie.spec returns sin-cos-requires bprim-of-requires cos-requires returns-2)
+f1-spec =
+    tie.close
+    (tie.spec returns (λ c κs. search needs) (λ c κs. search needs) (λ c κs. search needs) returns-2)

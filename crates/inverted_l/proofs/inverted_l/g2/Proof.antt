@@ -8,15 +8,6 @@ returns : tie.Need-returns
 unfolding g2Of round ofBits
 returns c = rw (c .if1 .taken)
 
-cos-requires : tie.Need-cos-requires
-cos-requires c κs = search needs
-
-sin-cos-requires : tie.Need-sin-cos-requires
-sin-cos-requires c κs = search needs
-
-powi2-requires : tie.Need-powi2-requires
-powi2-requires c κs = search needs
-
 returns-2 : tie.Need-returns-2
 unfolding g2Of round ofBits
 returns-2 c = rw (
@@ -28,4 +19,6 @@ returns-2 c = rw (
 )
 
 pub g2-spec : {M : Type 1} → statement M
-g2-spec = tie.close (tie.spec returns cos-requires sin-cos-requires powi2-requires returns-2)
+g2-spec =
+    tie.close
+    (tie.spec returns (λ c κs. search needs) (λ c κs. search needs) (λ c κs. search needs) returns-2)

@@ -4,15 +4,9 @@ use borrow.Author.Needs.{needs}
 use Rattle.inverted_l.proofs.inverted_l.inverted_l_rain.Statement.{statement}
 use Rattle.inverted_l.proofs.inverted_l.inverted_l_rain.Tie as tie
 
-g2-requires : tie.Need-g2-requires
-g2-requires c κs = search needs
-
-f1-requires : tie.Need-f1-requires
-f1-requires c κs = search needs
-
 returns : tie.Need-returns
 unfolding invertedLRain round ofBits
 returns c = rw (← c .before .before .g2 .ensures, ← c .before .f1 .ensures)
 
 pub inverted-l-rain-spec : {M : Type 1} → statement M
-inverted-l-rain-spec = tie.close (tie.spec g2-requires f1-requires returns)
+inverted-l-rain-spec = tie.close (tie.spec (λ c κs. search needs) (λ c κs. search needs) returns)

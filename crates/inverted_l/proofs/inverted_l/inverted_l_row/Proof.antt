@@ -4,27 +4,12 @@ use borrow.Author.Needs.{needs}
 use Rattle.inverted_l.proofs.inverted_l.inverted_l_row.Statement.{statement}
 use Rattle.inverted_l.proofs.inverted_l.inverted_l_row.Tie as tie
 
-resistance-of-requires : tie.Need-resistance-of-requires
-resistance-of-requires c κs = search needs
-
-enum-known-ra : tie.Need-enum-known-ra
-enum-known-ra c = search needs
-
 enum-told : tie.Need-enum-told
 enum-told c = search needs
 
 returns : tie.Need-returns
 unfolding invertedLRow round ofBits
 returns c = rw (← c .before .before .resistance-of .ensures, c .enum-told .given .1)
-
-eff8-of-requires : tie.Need-eff8-of-requires
-eff8-of-requires c κs = search needs
-
-sin-cos-requires : tie.Need-sin-cos-requires
-sin-cos-requires c κs = search needs
-
-sin-cos-requires-2 : tie.Need-sin-cos-requires-2
-sin-cos-requires-2 c κs = search needs
 
 returns-2 : tie.Need-returns-2
 unfolding invertedLRow round ofBits
@@ -41,12 +26,5 @@ returns-2 c = rw (
 pub inverted-l-row-spec : {M : Type 1} → statement M
 inverted-l-row-spec =
     tie.close
-    (tie.spec
-    resistance-of-requires
-    enum-known-ra
-    enum-told
-    returns
-    eff8-of-requires
-    sin-cos-requires
-    sin-cos-requires-2
-    returns-2)
+    (tie.spec (λ c κs. search needs) (λ c. search needs) enum-told returns (λ c κs. search needs)
+    (λ c κs. search needs) (λ c κs. search needs) returns-2)

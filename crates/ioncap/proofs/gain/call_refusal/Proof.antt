@@ -10,21 +10,9 @@ use borrow.Author.Needs.{needs}
 use Rattle.ioncap.proofs.gain.call_refusal.Statement.{statement}
 use Rattle.ioncap.proofs.gain.call_refusal.Tie as tie
 
-is-finite-requires : tie.Need-is-finite-requires
-is-finite-requires c κs = search needs
-
 returns : tie.Need-returns
 unfolding callRefusal firstRefusal
 returns c = rw (← c .before .is-finite .ensures, c .if1 .taken)
-
-call-outside-requires : tie.Need-call-outside-requires
-call-outside-requires c κs = search needs
-
-mhz-outside-requires : tie.Need-mhz-outside-requires
-mhz-outside-requires c κs = search needs
-
-input-refusal-requires : tie.Need-input-refusal-requires
-input-refusal-requires c κs = search needs
 
 returns-2 : tie.Need-returns-2
 unfolding callRefusal firstRefusal inputRefusal round ofBits
@@ -35,10 +23,5 @@ returns-2 c = let call = c .before .before .before .before .before .before .befo
 pub call-refusal-spec : {M : Type 1} → statement M
 call-refusal-spec =
     tie.close
-    (tie.spec
-    is-finite-requires
-    returns
-    call-outside-requires
-    mhz-outside-requires
-    input-refusal-requires
-    returns-2)
+    (tie.spec (λ c κs. search needs) returns (λ c κs. search needs) (λ c κs. search needs)
+    (λ c κs. search needs) returns-2)

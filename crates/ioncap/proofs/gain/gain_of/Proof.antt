@@ -4,34 +4,15 @@ use mir.Syntax.{w32}
 use mir.ValLaws.{toZ-ofZ}
 use borrow.Author.Tests.{ne-eqb}
 use Rattle.patterns.specs.Antenna.{antennaOf}
-use Rattle.ioncap.specs.Gain.{callWork}
-use Rattle.ioncap.specs.Gain.{gainOf}
+use Rattle.ioncap.specs.Gain.{callWork, gainOf}
 use borrow.Author.Needs.{needs}
 use Rattle.ioncap.proofs.Answers.{answers}
 use Rattle.ioncap.proofs.gain.gain_of.Statement.{statement}
 use Rattle.ioncap.proofs.gain.gain_of.Tie as tie
 
-call-refusal-requires : tie.Need-call-refusal-requires
-call-refusal-requires c κs = search needs
-
 returns : tie.Need-returns
 unfolding gainOf
 returns c = answers (c .before .before .args .call) (c .before .before .args .height) _ (rw (← c .before .call-refusal .ensures, ne-eqb _ 0 (c .if1 .taken)))
-
-antenna-of-requires : tie.Need-antenna-of-requires
-antenna-of-requires c κs = search needs
-
-sin-cos-requires : tie.Need-sin-cos-requires
-sin-cos-requires c κs = search needs
-
-elevation-of-requires : tie.Need-elevation-of-requires
-elevation-of-requires c κs = search needs
-
-work-requires : tie.Need-work-requires
-work-requires c κs = search needs
-
-enum-known-call : tie.Need-enum-known-call
-enum-known-call c = search needs
 
 enum-told : tie.Need-enum-told
 enum-told c = search needs
@@ -51,14 +32,5 @@ returns-3 c = let call = c .before .before .before .before .before .before .befo
 pub gain-of-spec : {M : Type 1} → statement M
 gain-of-spec =
     tie.close
-    (tie.spec
-    call-refusal-requires
-    returns
-    antenna-of-requires
-    sin-cos-requires
-    elevation-of-requires
-    work-requires
-    enum-known-call
-    enum-told
-    returns-2
-    returns-3)
+    (tie.spec (λ c κs. search needs) returns (λ c κs. search needs) (λ c κs. search needs)
+    (λ c κs. search needs) (λ c κs. search needs) (λ c. search needs) enum-told returns-2 returns-3)

@@ -13,26 +13,8 @@ Inv-loop numbers i₀ i = anyOutside (drop i numbers) ≡ anyOutside numbers
 abbrev μ-loop : tie.MeasureT-loop
 μ-loop numbers i₀ i = length numbers - i
 
-loop-holds : tie.Need-loop-holds Inv-loop μ-loop
-loop-holds c = refl
-
-mul-is-outside : tie.Need-mul-is-outside Inv-loop μ-loop
-mul-is-outside c = search needs
-
-shared-slice-read-is-outside : tie.Need-shared-slice-read-is-outside Inv-loop μ-loop
-shared-slice-read-is-outside c = search needs
-
-is-outside-requires : tie.Need-is-outside-requires Inv-loop μ-loop
-is-outside-requires c κs = search needs
-
 returns : tie.Need-returns Inv-loop μ-loop
 returns c = found _ _ (c .before .before .before .before .loop .inv) (c .before .before .before .loop-test .taken) (sym (c .before .is-outside .ensures) ∙ c .if1 .taken)
-
-add-i : tie.Need-add-i Inv-loop μ-loop
-add-i c = search needs
-
-loop-less : tie.Need-loop-less Inv-loop μ-loop
-loop-less c = search needs
 
 loop-again : tie.Need-loop-again Inv-loop μ-loop
 loop-again c = passed _ _ (c .before .before .before .before .loop .inv) (c .before .before .before .loop-test .taken) (sym (c .before .is-outside .ensures) ∙ c .if1 .left)
@@ -43,15 +25,5 @@ returns-2 c = ended _ _ (c .before .loop .inv) (c .loop-test .left)
 pub any-outside-spec : {M : Type 1} → statement M
 any-outside-spec =
     tie.close
-    (tie.spec
-    Inv-loop
-    μ-loop
-    loop-holds
-    mul-is-outside
-    shared-slice-read-is-outside
-    is-outside-requires
-    returns
-    add-i
-    loop-less
-    loop-again
-    returns-2)
+    (tie.spec Inv-loop μ-loop (λ c. refl) (λ c. search needs) (λ c. search needs) (λ c κs. search needs)
+    returns (λ c. search needs) (λ c. search needs) loop-again returns-2)

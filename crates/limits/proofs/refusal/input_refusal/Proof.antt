@@ -9,9 +9,6 @@ use borrow.Author.Needs.{needs}
 use Rattle.limits.proofs.refusal.input_refusal.Statement.{statement}
 use Rattle.limits.proofs.refusal.input_refusal.Tie as tie
 
-is-ioncap-type-requires : tie.Need-is-ioncap-type-requires
-is-ioncap-type-requires c κs = search needs
-
 returns : tie.Need-returns
 unfolding inputRefusal firstRefusal round ofBits
 returns c =
@@ -47,9 +44,6 @@ returns-4 c =
       c .if4 .taken,
     )
 
-too-many-bays-requires : tie.Need-too-many-bays-requires
-too-many-bays-requires c κs = search needs
-
 returns-5 : tie.Need-returns-5
 unfolding inputRefusal firstRefusal round ofBits
 returns-5 c =
@@ -83,12 +77,5 @@ returns-6 c =
 pub input-refusal-spec : {M : Type 1} → statement M
 input-refusal-spec =
     tie.close
-    (tie.spec
-    is-ioncap-type-requires
-    returns
-    returns-2
-    returns-3
-    returns-4
-    too-many-bays-requires
-    returns-5
+    (tie.spec (λ c κs. search needs) returns returns-2 returns-3 returns-4 (λ c κs. search needs) returns-5
     returns-6)

@@ -4,8 +4,6 @@ use borrow.Author.Needs.{needs}
 use Rattle.listing.proofs.Entries.{type-formed, type-malformed}
 use Rattle.listing.proofs.card.card_type.Statement.{statement}
 use Rattle.listing.proofs.card.card_type.Tie as tie
-use Rattle.listing.proofs.card.card_type.Reads as reads
-use Rattle.listing.proofs.card.card_type.Lts as lts
 
 -- src/card.rt:49:1
 returns : tie.Need-returns

@@ -5,8 +5,6 @@ use Rattle.listing.specs.Session.{counted}
 use borrow.Author.Needs.{needs}
 use Rattle.listing.proofs.card.count.Statement.{statement}
 use Rattle.listing.proofs.card.count.Tie as tie
-use Rattle.listing.proofs.card.count.Reads as reads
-use Rattle.listing.proofs.card.count.Lts as lts
 
 -- src/card.rt:30:9
 add-result : tie.Need-add-result

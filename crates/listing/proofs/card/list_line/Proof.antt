@@ -10,14 +10,6 @@ use mathlib.Core.Path.{sym, _∙_}
 use borrow.Author.Needs.{needs}
 use Rattle.listing.proofs.card.list_line.Statement.{statement}
 use Rattle.listing.proofs.card.list_line.Tie as tie
-use Rattle.listing.proofs.card.list_line.Reads as reads
-use Rattle.listing.proofs.card.list_line.Lts as lts
-use Rattle.card_line.proofs.read_line.Reads as read-line-reads
-use Rattle.listing.proofs.card.card_type.Reads as card-type-reads
-use Rattle.listing.proofs.card.count.Reads as count-reads
-use Rattle.listing.proofs.card.rows.Reads as rows-reads
-use Rattle.listing.proofs.card.run_line.Reads as run-line-reads
-use Rattle.listing.proofs.writing.heading.Reads as heading-reads
 
 -- src/card.rt:86:9
 count-requires : tie.Need-count-requires
@@ -62,14 +54,5 @@ returns c = line-listed _ _ _ _ _ _ _ _ _ _ _ _ _ _ (c .before .before .before .
 pub list-line-spec : {M : Type 1} → statement M
 list-line-spec =
     tie.close
-    (tie.spec
-    count-requires
-    slice-aggregate-read-line
-    read-line-requires
-    run-line-requires
-    card-type-requires
-    heading-requires
-    rows-requires
-    same-length
-    same-length-2
-    returns)
+    (tie.spec count-requires slice-aggregate-read-line read-line-requires run-line-requires card-type-requires
+    heading-requires rows-requires same-length same-length-2 returns)

@@ -9,9 +9,6 @@ use Rattle.listing.proofs.Entries.{refused-rows, card-rows, accepted-ro
 use borrow.Author.Needs.{needs}
 use Rattle.listing.proofs.card.rows.Statement.{statement}
 use Rattle.listing.proofs.card.rows.Tie as tie
-use Rattle.listing.proofs.card.rows.Reads as reads
-use Rattle.listing.proofs.card.rows.Lts as lts
-use Rattle.listing.proofs.writing.rows.Reads as rows-reads
 
 -- src/card.rt:65:9
 returns : tie.Need-returns

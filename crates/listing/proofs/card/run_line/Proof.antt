@@ -2,10 +2,6 @@ use Rattle.listing.proofs.Entries.{card-run, malformed-run}
 use borrow.Author.Needs.{needs}
 use Rattle.listing.proofs.card.run_line.Statement.{statement}
 use Rattle.listing.proofs.card.run_line.Tie as tie
-use Rattle.listing.proofs.card.run_line.Reads as reads
-use Rattle.listing.proofs.card.run_line.Lts as lts
-use Rattle.deck.proofs.run_card.Reads as run-card-reads
-use Rattle.deck.proofs.run_malformed.Reads as run-malformed-reads
 
 -- src/card.rt:44:9
 run-card-requires : tie.Need-run-card-requires

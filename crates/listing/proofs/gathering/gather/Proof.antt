@@ -5,9 +5,6 @@ use Prim.Native.Nat.{_-_}
 use borrow.Author.Needs.{needs}
 use Rattle.listing.proofs.gathering.gather.Statement.{statement}
 use Rattle.listing.proofs.gathering.gather.Tie as tie
-use Rattle.listing.proofs.gathering.gather.Reads as reads
-use Rattle.listing.proofs.gathering.gather.Lts as lts
-use Rattle.listing.proofs.gathering.push.Reads as push-reads
 
 abbrev Inv-loop : tie.InvT-loop
 Inv-loop line₀ held piece len₀ i₀ line len i = Gathering held line₀ piece line len i
@@ -58,16 +55,5 @@ returns-2 c = gather-end _ _ _ _ _ _ (c .before .loop .inv) (c .loop-test .left)
 pub gather-spec : {M : Type 1} → statement M
 gather-spec =
     tie.close
-    (tie.spec
-    Inv-loop
-    μ-loop
-    loop-holds
-    shared-slice-read-b
-    add-i
-    same-length
-    returns
-    push-requires
-    loop-less
-    loop-again
-    same-length-2
-    returns-2)
+    (tie.spec Inv-loop μ-loop loop-holds shared-slice-read-b add-i same-length returns push-requires loop-less
+    loop-again same-length-2 returns-2)

@@ -2,8 +2,6 @@ use Rattle.listing.proofs.Pieces.{push-more, push-full}
 use borrow.Author.Needs.{needs}
 use Rattle.listing.proofs.gathering.push.Statement.{statement}
 use Rattle.listing.proofs.gathering.push.Tie as tie
-use Rattle.listing.proofs.gathering.push.Reads as reads
-use Rattle.listing.proofs.gathering.push.Lts as lts
 
 -- src/gathering.rt:23:9
 slice-write-line : tie.Need-slice-write-line

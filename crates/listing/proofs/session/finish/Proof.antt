@@ -2,17 +2,10 @@ use lib.ListN.{length}
 use mathlib.Core.Path.{_≡_}
 use Rattle.listing.proofs.Sessions.{held-low, finish-idle, finish-empty, finish-held}
 use Rattle.listing.proofs.Ready.{tested}
-use lib.Dec.{lit≤}
 use native.Mathlib.Omega.{arith}
 use borrow.Author.Needs.{needs}
 use Rattle.listing.proofs.session.finish.Statement.{statement}
 use Rattle.listing.proofs.session.finish.Tie as tie
-use Rattle.listing.proofs.session.finish.Reads as reads
-use Rattle.listing.proofs.session.finish.Lts as lts
-use Rattle.listing.proofs.card.list_line.Reads as list-line-reads
-use Rattle.listing.proofs.session.held_in.Reads as held-in-reads
-use Rattle.listing.proofs.session.is_ready.Reads as is-ready-reads
-use Rattle.listing.proofs.writing.counts.Reads as counts-reads
 
 -- src/session.rt:107:9
 is-ready-requires : tie.Need-is-ready-requires
@@ -73,18 +66,6 @@ returns-3 c = finish-held _ _ _ _ _ _ (c .before .before .before .before .before
 pub finish-spec : {M : Type 1} → statement M
 finish-spec =
     tie.close
-    (tie.spec
-    is-ready-requires
-    same-length
-    same-length-2
-    returns
-    held-in-requires
-    counts-requires
-    same-length-3
-    same-length-4
-    returns-2
-    list-line-requires
-    counts-requires-2
-    same-length-5
-    same-length-6
+    (tie.spec is-ready-requires same-length same-length-2 returns held-in-requires counts-requires
+    same-length-3 same-length-4 returns-2 list-line-requires counts-requires-2 same-length-5 same-length-6
     returns-3)

@@ -3,8 +3,6 @@ use borrow.Author.Tests.{lt-ltb, le-ltb}
 use Rattle.listing.specs.Session.{heldIn}
 use Rattle.listing.proofs.session.held_in.Statement.{statement}
 use Rattle.listing.proofs.session.held_in.Tie as tie
-use Rattle.listing.proofs.session.held_in.Reads as reads
-use Rattle.listing.proofs.session.held_in.Lts as lts
 
 -- src/session.rt:53:1
 returns : tie.Need-returns

@@ -2,9 +2,6 @@ use Rattle.listing.proofs.Ready.{short-line, no-table, no-room, room-le
 use borrow.Author.Needs.{needs}
 use Rattle.listing.proofs.session.is_ready.Statement.{statement}
 use Rattle.listing.proofs.session.is_ready.Tie as tie
-use Rattle.listing.proofs.session.is_ready.Reads as reads
-use Rattle.listing.proofs.session.is_ready.Lts as lts
-use Rattle.table.proofs.is_table.Reads as is-table-reads
 
 -- src/session.rt:45:9
 returns : tie.Need-returns
@@ -31,5 +28,4 @@ returns-4 : tie.Need-returns-4
 returns-4 c = room-left _ _ _ _ _ (c .before .before .before .if1 .left) (c .before .before .is-table .ensures) (c .before .if2 .left) (c .if3 .left)
 
 pub is-ready-spec : {M : Type 1} → statement M
-is-ready-spec =
-    tie.close (tie.spec returns is-table-requires returns-2 returns-3 sub-result returns-4)
+is-ready-spec = tie.close (tie.spec returns is-table-requires returns-2 returns-3 sub-result returns-4)

@@ -2,17 +2,10 @@ use lib.ListN.{length}
 use mathlib.Core.Path.{_≡_}
 use Rattle.listing.proofs.Sessions.{held-low, step-idle, step-part, step-whole}
 use Rattle.listing.proofs.Ready.{tested}
-use mathlib.Core.Path.{_∙_}
 use native.Mathlib.Omega.{arith}
 use borrow.Author.Needs.{needs}
 use Rattle.listing.proofs.session.step.Statement.{statement}
 use Rattle.listing.proofs.session.step.Tie as tie
-use Rattle.listing.proofs.session.step.Reads as reads
-use Rattle.listing.proofs.session.step.Lts as lts
-use Rattle.listing.proofs.card.list_line.Reads as list-line-reads
-use Rattle.listing.proofs.gathering.gather.Reads as gather-reads
-use Rattle.listing.proofs.session.held_in.Reads as held-in-reads
-use Rattle.listing.proofs.session.is_ready.Reads as is-ready-reads
 
 -- src/session.rt:77:9
 is-ready-requires : tie.Need-is-ready-requires
@@ -81,20 +74,6 @@ returns-3 c = step-whole _ _ _ _ _ _ (c .before .before .before .before .before 
 pub step-spec : {M : Type 1} → statement M
 step-spec =
     tie.close
-    (tie.spec
-    is-ready-requires
-    same-length
-    same-length-2
-    same-length-3
-    returns
-    held-in-requires
-    gather-requires
-    same-length-4
-    same-length-5
-    same-length-6
-    returns-2
-    list-line-requires
-    same-length-7
-    same-length-8
-    same-length-9
-    returns-3)
+    (tie.spec is-ready-requires same-length same-length-2 same-length-3 returns held-in-requires
+    gather-requires same-length-4 same-length-5 same-length-6 returns-2 list-line-requires same-length-7
+    same-length-8 same-length-9 returns-3)

@@ -6,10 +6,6 @@ use Rattle.listing.proofs.Buffer.{room, then}
 use borrow.Author.Needs.{needs}
 use Rattle.listing.proofs.writing.counts.Statement.{statement}
 use Rattle.listing.proofs.writing.counts.Tie as tie
-use Rattle.listing.proofs.writing.counts.Reads as reads
-use Rattle.listing.proofs.writing.counts.Lts as lts
-use Rattle.listing.proofs.writing.integer.Reads as integer-reads
-use Rattle.listing.proofs.writing.line_feed.Reads as line-feed-reads
 
 -- src/writing.rt:78:21
 cast-integer : tie.Need-cast-integer
@@ -43,11 +39,5 @@ returns c = then (then (unsigned _ _ (search needs) (c .before .before .before .
 pub counts-spec : {M : Type 1} → statement M
 counts-spec =
     tie.close
-    (tie.spec
-    cast-integer
-    integer-requires
-    cast-integer-2
-    integer-requires-2
-    line-feed-requires
-    same-length
+    (tie.spec cast-integer integer-requires cast-integer-2 integer-requires-2 line-feed-requires same-length
     returns)

@@ -6,10 +6,6 @@ use Rattle.listing.proofs.Buffer.{room, then}
 use borrow.Author.Needs.{needs}
 use Rattle.listing.proofs.writing.heading.Statement.{statement}
 use Rattle.listing.proofs.writing.heading.Tie as tie
-use Rattle.listing.proofs.writing.heading.Reads as reads
-use Rattle.listing.proofs.writing.heading.Lts as lts
-use Rattle.listing.proofs.writing.integer.Reads as integer-reads
-use Rattle.listing.proofs.writing.line_feed.Reads as line-feed-reads
 
 -- src/writing.rt:42:21
 cast-integer : tie.Need-cast-integer
@@ -51,13 +47,5 @@ returns c = then (then (then (unsigned _ _ (search needs) (c .before .before .be
 pub heading-spec : {M : Type 1} → statement M
 heading-spec =
     tie.close
-    (tie.spec
-    cast-integer
-    integer-requires
-    cast-integer-2
-    integer-requires-2
-    cast-integer-3
-    integer-requires-3
-    line-feed-requires
-    same-length
-    returns)
+    (tie.spec cast-integer integer-requires cast-integer-2 integer-requires-2 cast-integer-3
+    integer-requires-3 line-feed-requires same-length returns)

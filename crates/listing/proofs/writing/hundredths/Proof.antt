@@ -4,9 +4,6 @@ use Rattle.listing.proofs.Buffer.{field}
 use borrow.Author.Needs.{needs}
 use Rattle.listing.proofs.writing.hundredths.Statement.{statement}
 use Rattle.listing.proofs.writing.hundredths.Tie as tie
-use Rattle.listing.proofs.writing.hundredths.Reads as reads
-use Rattle.listing.proofs.writing.hundredths.Lts as lts
-use Rattle.output.proofs.hundredths_field.Reads as hundredths-field-reads
 
 -- src/writing.rt:25:15
 add-end : tie.Need-add-end
@@ -39,11 +36,5 @@ returns c = field (hundredthsField (c .before .before .before .before .before .a
 pub hundredths-spec : {M : Type 1} → statement M
 hundredths-spec =
     tie.close
-    (tie.spec
-    add-end
-    sub-hundredths-field
-    part-hundredths-field-start
-    part-hundredths-field-end
-    hundredths-field-requires
-    same-length
-    returns)
+    (tie.spec add-end sub-hundredths-field part-hundredths-field-start part-hundredths-field-end
+    hundredths-field-requires same-length returns)

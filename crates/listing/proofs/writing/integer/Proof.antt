@@ -7,9 +7,6 @@ use Rattle.listing.proofs.Buffer.{field}
 use borrow.Author.Needs.{needs}
 use Rattle.listing.proofs.writing.integer.Statement.{statement}
 use Rattle.listing.proofs.writing.integer.Tie as tie
-use Rattle.listing.proofs.writing.integer.Reads as reads
-use Rattle.listing.proofs.writing.integer.Lts as lts
-use Rattle.output.proofs.i.Reads as i-reads
 
 -- src/writing.rt:16:15
 add-end : tie.Need-add-end
@@ -40,5 +37,4 @@ returns : tie.Need-returns
 returns c = handed _ _ (c .before .before .before .before .before .fits .v) (field (integerField (toZ w64 (ofZ w64 (c .before .before .before .before .before .args .v)))) _ _ _ _ (field-length _ _) (c .before .before .before .before .before .pre) (c .before .before .i .ensures))
 
 pub integer-spec : {M : Type 1} → statement M
-integer-spec =
-    tie.close (tie.spec add-end sub-i part-i-start part-i-end i-requires same-length returns)
+integer-spec = tie.close (tie.spec add-end sub-i part-i-start part-i-end i-requires same-length returns)

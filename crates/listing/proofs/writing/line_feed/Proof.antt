@@ -2,8 +2,6 @@ use Rattle.listing.proofs.Buffer.{one-byte}
 use borrow.Author.Needs.{needs}
 use Rattle.listing.proofs.writing.line_feed.Statement.{statement}
 use Rattle.listing.proofs.writing.line_feed.Tie as tie
-use Rattle.listing.proofs.writing.line_feed.Reads as reads
-use Rattle.listing.proofs.writing.line_feed.Lts as lts
 
 -- src/writing.rt:34:5
 slice-write-out : tie.Need-slice-write-out

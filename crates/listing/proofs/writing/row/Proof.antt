@@ -1,18 +1,11 @@
-use Rattle.listing.proofs.Printed.{row}
+use Rattle.listing.proofs.Printed.{row, unsigned}
 use lib.Dec.{lit≤}
-use Rattle.listing.specs.Text.{rowText}
 use Rattle.output.proofs.Printed.{hundredths-field-length}
 use Rattle.output.proofs.Field.{field-length}
-use Rattle.listing.proofs.Printed.{unsigned}
 use Rattle.listing.proofs.Buffer.{room, then}
 use borrow.Author.Needs.{needs}
 use Rattle.listing.proofs.writing.row.Statement.{statement}
 use Rattle.listing.proofs.writing.row.Tie as tie
-use Rattle.listing.proofs.writing.row.Reads as reads
-use Rattle.listing.proofs.writing.row.Lts as lts
-use Rattle.listing.proofs.writing.hundredths.Reads as hundredths-reads
-use Rattle.listing.proofs.writing.integer.Reads as integer-reads
-use Rattle.listing.proofs.writing.line_feed.Reads as line-feed-reads
 
 -- src/writing.rt:52:37
 sub-efficiency : tie.Need-sub-efficiency
@@ -77,19 +70,6 @@ returns c = row _ (c .before .before .before .before .before .before .before .be
 pub row-spec : {M : Type 1} → statement M
 row-spec =
     tie.close
-    (tie.spec
-    sub-efficiency
-    add-efficiency
-    mul-efficiency
-    shared-slice-read-efficiency
-    sub-gain
-    mul-gain
-    mul-gain-2
-    shared-slice-read-gain
-    cast-integer
-    integer-requires
-    hundredths-requires
-    hundredths-requires-2
-    line-feed-requires
-    same-length
-    returns)
+    (tie.spec sub-efficiency add-efficiency mul-efficiency shared-slice-read-efficiency sub-gain mul-gain
+    mul-gain-2 shared-slice-read-gain cast-integer integer-requires hundredths-requires hundredths-requires-2
+    line-feed-requires same-length returns)

@@ -5,9 +5,6 @@ use native.Mathlib.Omega.{arith}
 use borrow.Author.Needs.{needs}
 use Rattle.listing.proofs.writing.rows.Statement.{statement}
 use Rattle.listing.proofs.writing.rows.Tie as tie
-use Rattle.listing.proofs.writing.rows.Reads as reads
-use Rattle.listing.proofs.writing.rows.Lts as lts
-use Rattle.listing.proofs.writing.row.Reads as row-reads
 
 abbrev Inv-loop : tie.InvT-loop
 Inv-loop table first count out₀ at end₀ n₀ out end n = Rows table first count at out₀ out end n
@@ -50,14 +47,4 @@ returns c = rows-end (c .before .loop .inv) (c .loop-test .left)
 pub rows-spec : {M : Type 1} → statement M
 rows-spec =
     tie.close
-    (tie.spec
-    Inv-loop
-    μ-loop
-    loop-holds
-    add-row
-    row-requires
-    add-n
-    loop-less
-    loop-again
-    same-length
-    returns)
+    (tie.spec Inv-loop μ-loop loop-holds add-row row-requires add-n loop-less loop-again same-length returns)

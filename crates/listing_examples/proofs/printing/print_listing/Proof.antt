@@ -6,12 +6,6 @@ use native.Mathlib.Omega.{arith}
 use borrow.Author.Needs.{needs}
 use Rattle.listing_examples.proofs.printing.print_listing.Statement.{statement}
 use Rattle.listing_examples.proofs.printing.print_listing.Tie as tie
-use Rattle.listing_examples.proofs.printing.print_listing.Reads as reads
-use Rattle.listing_examples.proofs.printing.print_listing.Lts as lts
-use Rattle.listing.proofs.finish.Reads as finish-reads
-use Rattle.listing.proofs.step.Reads as step-reads
-use Rattle.listing_examples.proofs.printing.piece_end.Reads as piece-end-reads
-use Rattle.listing_examples.proofs.printing.print_start.Reads as print-start-reads
 
 abbrev Inv-loop : tie.InvT-loop
 Inv-loop input size line₀ table₀ out₀ s₀ from₀ steps₀ line table out s from steps = Pieces input line₀ table₀ out₀ line table out from
@@ -90,23 +84,6 @@ returns c = search needs
 pub print-listing-spec : {M : Type 1} → statement M
 print-listing-spec =
     tie.close
-    (tie.spec
-    Inv-loop
-    μ-loop
-    loop-holds
-    piece-end-requires
-    sub-step
-    part-step-start
-    part-step-end
-    step-requires
-    print-start-requires
-    add-from
-    add-steps
-    loop-less
-    loop-again
-    finish-requires
-    print-start-requires-2
-    same-length
-    same-length-2
-    same-length-3
-    returns)
+    (tie.spec Inv-loop μ-loop loop-holds piece-end-requires sub-step part-step-start part-step-end
+    step-requires print-start-requires add-from add-steps loop-less loop-again finish-requires
+    print-start-requires-2 same-length same-length-2 same-length-3 returns)

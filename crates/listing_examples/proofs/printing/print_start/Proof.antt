@@ -3,9 +3,6 @@ use mathlib.Core.Path.{sym}
 use borrow.Author.Needs.{needs}
 use Rattle.listing_examples.proofs.printing.print_start.Statement.{statement}
 use Rattle.listing_examples.proofs.printing.print_start.Tie as tie
-use Rattle.listing_examples.proofs.printing.print_start.Reads as reads
-use Rattle.listing_examples.proofs.printing.print_start.Lts as lts
-use Rattle.io.proofs.write_all.Reads as write-all-reads
 
 -- src/printing.rt:25:38
 slice-aggregate-write-all : tie.Need-slice-aggregate-write-all
@@ -24,5 +21,4 @@ returns-2 : tie.Need-returns-2
 returns-2 c = search needs
 
 pub print-start-spec : {M : Type 1} → statement M
-print-start-spec =
-    tie.close (tie.spec slice-aggregate-write-all write-all-requires returns returns-2)
+print-start-spec = tie.close (tie.spec slice-aggregate-write-all write-all-requires returns returns-2)

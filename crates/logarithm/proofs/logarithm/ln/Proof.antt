@@ -29,9 +29,6 @@ ln-normal-requires c κs =
     let p = c .before .before .if1 .taken in
     (scaled-normal _ f p (c .if3 .taken), scaled-below _ f p (c .if3 .taken), lit< tt)
 
-ln-normal-requires-2 : tie.Need-ln-normal-requires-2
-ln-normal-requires-2 c κs = search needs
-
 returns : tie.Need-returns
 unfolding logarithm
 returns c =
@@ -69,13 +66,5 @@ returns-5 c = on-other (inf true) atUnits (c .before .before .args .y) (c .befor
 pub ln-spec : {M : Type 1} → statement M
 ln-spec =
     tie.close
-    (tie.spec
-    float-to-bits-b
-    float-to-bits-ln-normal
-    ln-normal-requires
-    ln-normal-requires-2
-    returns
-    returns-2
-    returns-3
-    returns-4
-    returns-5)
+    (tie.spec float-to-bits-b float-to-bits-ln-normal ln-normal-requires (λ c κs. search needs) returns
+    returns-2 returns-3 returns-4 returns-5)

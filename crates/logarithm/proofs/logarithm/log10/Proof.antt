@@ -4,12 +4,9 @@ use borrow.Author.Needs.{needs}
 use Rattle.logarithm.proofs.logarithm.log10.Statement.{statement}
 use Rattle.logarithm.proofs.logarithm.log10.Tie as tie
 
-ln-requires : tie.Need-ln-requires
-ln-requires c κs = search needs
-
 returns : tie.Need-returns
 unfolding logarithm10 round ofBits
 returns c = rw (← c .ln .ensures)
 
 pub log10-spec : {M : Type 1} → statement M
-log10-spec = tie.close (tie.spec ln-requires returns)
+log10-spec = tie.close (tie.spec (λ c κs. search needs) returns)

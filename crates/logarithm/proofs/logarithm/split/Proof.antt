@@ -28,9 +28,6 @@ mul-m c = let h = one c in omega arith
 sub-m : tie.Need-sub-m
 sub-m c = let h = one c in omega arith
 
-add-m : tie.Need-add-m
-add-m c = search needs
-
 float-from-bits-m : tie.Need-float-from-bits-m
 float-from-bits-m c = let h = one c in finite-bits _ (omega arith)
 
@@ -44,4 +41,4 @@ returns c =
     (omega arith, chosen (a .args .b) (a .args .bias) (c .before .if1 .half) (a .pre .0) (a .pre .1) (⊎-elim (λ w. inl (w .0 .taken, w .1)) (λ w. inr (w .0 .left, w .1)) (c .before .if1 .came)))
 
 pub split-spec : {M : Type 1} → statement M
-split-spec = tie.close (tie.spec mul-m sub-m add-m float-from-bits-m add-e returns)
+split-spec = tie.close (tie.spec mul-m sub-m (λ c. search needs) float-from-bits-m add-e returns)

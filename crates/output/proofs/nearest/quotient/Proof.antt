@@ -18,14 +18,8 @@ returns : tie.Need-returns Inv-loop μ-loop
 unfolding round ofBits
 returns c = rw (c .if1 .taken) refl
 
-mul-m : tie.Need-mul-m Inv-loop μ-loop
-mul-m c = search needs
-
 loop-holds : tie.Need-loop-holds Inv-loop μ-loop
 loop-holds c = scaling-starts _ (omega arith) (c .before .pre)
-
-mul-m-2 : tie.Need-mul-m-2 Inv-loop μ-loop
-mul-m-2 c = omega arith
 
 sub-k : tie.Need-sub-k Inv-loop μ-loop
 sub-k c = above _ _ _ (omega arith) (c .before .loop .inv)
@@ -60,19 +54,5 @@ returns-2 c = ap (λ (x : ℕ). ofBits binary32 (c .before .before .loop .k * 83
 pub quotient-spec : {M : Type 1} → statement M
 quotient-spec =
     tie.close
-    (tie.spec
-    Inv-loop
-    μ-loop
-    returns
-    mul-m
-    loop-holds
-    mul-m-2
-    sub-k
-    loop-less
-    loop-again
-    mul-result
-    rounded-requires
-    cast-result
-    add-result
-    float-from-bits-result
-    returns-2)
+    (tie.spec Inv-loop μ-loop returns (λ c. search needs) loop-holds (λ c. omega arith) sub-k loop-less
+    loop-again mul-result rounded-requires cast-result add-result float-from-bits-result returns-2)

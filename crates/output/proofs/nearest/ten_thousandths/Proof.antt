@@ -3,9 +3,6 @@ use Rattle.output.proofs.Round.{plus, minus, no-minus}
 use Rattle.output.proofs.nearest.ten_thousandths.Statement.{statement}
 use Rattle.output.proofs.nearest.ten_thousandths.Tie as tie
 
-quotient-requires : tie.Need-quotient-requires
-quotient-requires c κs = search needs
-
 returns : tie.Need-returns
 returns c = rw (c .before .if1 .taken) (minus _ _ (c .before .before .quotient .ensures) (c .if2 .taken))
 
@@ -16,4 +13,4 @@ returns-3 : tie.Need-returns-3
 returns-3 c = rw (c .if1 .left) (plus _ _ (c .before .quotient .ensures))
 
 pub ten-thousandths-spec : {M : Type 1} → statement M
-ten-thousandths-spec = tie.close (tie.spec quotient-requires returns returns-2 returns-3)
+ten-thousandths-spec = tie.close (tie.spec (λ c κs. search needs) returns returns-2 returns-3)

@@ -25,9 +25,6 @@ returns-2 c = too-many _ _ _ (c .if2 .taken)
 loop-holds : tie.Need-loop-holds Inv-loop μ-loop
 loop-holds c = record { low = omega arith; small = omega arith; rest = refl }
 
-shared-slice-read-b : tie.Need-shared-slice-read-b Inv-loop μ-loop
-shared-slice-read-b c = search needs
-
 returns-3 : tie.Need-returns-3 Inv-loop μ-loop
 returns-3 c = counted _ _ _ _ (c .before .before .before .before .before .if1 .left) (c .before .before .before .before .if2 .left) (digit-low _ _ _ _ (c .before .before .before .loop .inv) (c .before .before .loop-test .taken) (c .if3 .taken))
 
@@ -37,17 +34,8 @@ returns-4 c = counted _ _ _ _ (c .before .before .before .before .before .before
 mul-n : tie.Need-mul-n Inv-loop μ-loop
 mul-n c = let h = small c in omega arith
 
-cast-n : tie.Need-cast-n Inv-loop μ-loop
-cast-n c = search needs
-
 add-n : tie.Need-add-n Inv-loop μ-loop
 add-n c = let h = small c in omega arith
-
-add-i : tie.Need-add-i Inv-loop μ-loop
-add-i c = search needs
-
-loop-less : tie.Need-loop-less Inv-loop μ-loop
-loop-less c = search needs
 
 loop-again : tie.Need-loop-again Inv-loop μ-loop
 loop-again c = digit-step _ _ _ _ (c .before .before .before .before .loop .inv) (c .before .before .before .loop-test .taken) (c .before .if3 .left) (c .if4 .left)
@@ -58,19 +46,5 @@ returns-5 c = counted _ _ _ _ (c .before .before .before .if1 .left) (c .before 
 pub digits-spec : {M : Type 1} → statement M
 digits-spec =
     tie.close
-    (tie.spec
-    Inv-loop
-    μ-loop
-    returns
-    returns-2
-    loop-holds
-    shared-slice-read-b
-    returns-3
-    returns-4
-    mul-n
-    cast-n
-    add-n
-    add-i
-    loop-less
-    loop-again
-    returns-5)
+    (tie.spec Inv-loop μ-loop returns returns-2 loop-holds (λ c. search needs) returns-3 returns-4 mul-n
+    (λ c. search needs) add-n (λ c. search needs) (λ c. search needs) loop-again returns-5)

@@ -17,17 +17,8 @@ below c = (
 returns : tie.Need-returns
 returns c = too-short _ (c .if1 .taken)
 
-sub-point : tie.Need-sub-point
-sub-point c = search needs
-
 slice-aggregate-signed-digits : tie.Need-slice-aggregate-signed-digits
 slice-aggregate-signed-digits c = sym (length-take-le _ _ (omega arith))
-
-signed-digits-requires : tie.Need-signed-digits-requires
-signed-digits-requires c κs = search needs
-
-enum-known-minus : tie.Need-enum-known-minus
-enum-known-minus c = search needs
 
 enum-told : tie.Need-enum-told
 enum-told c = search needs
@@ -35,32 +26,8 @@ enum-told c = search needs
 returns-2 : tie.Need-returns-2
 returns-2 c = no-front _ _ (c .before .before .signed-digits .ensures) (c .enum-told .given .1)
 
-sub-after : tie.Need-sub-after
-sub-after c = search needs
-
-sub-digits : tie.Need-sub-digits
-sub-digits c = search needs
-
-part-digits-start : tie.Need-part-digits-start
-part-digits-start c = search needs
-
-part-digits-end : tie.Need-part-digits-end
-part-digits-end c = search needs
-
-digits-requires : tie.Need-digits-requires
-digits-requires c κs = search needs
-
-enum-known-b : tie.Need-enum-known-b
-enum-known-b c = search needs
-
-enum-told-2 : tie.Need-enum-told-2
-enum-told-2 c = search needs
-
 returns-3 : tie.Need-returns-3
 returns-3 c = no-back _ _ _ _ _ (c .before .before .before .before .before .before .before .signed-digits .ensures) (c .before .before .before .before .before .minus .given .1) (c .before .before .digits .ensures) (c .enum-told2 .given .1)
-
-shared-slice-read-if2 : tie.Need-shared-slice-read-if2
-shared-slice-read-if2 c = search needs
 
 returns-4 : tie.Need-returns-4
 returns-4 c = no-point _ _ _ _ _ (c .before .before .before .before .before .before .before .before .before .before .signed-digits .ensures) (c .before .before .before .before .before .before .before .before .minus .given .1) (c .before .before .before .before .before .digits .ensures) _ _ (c .before .before .before .b .given .1) (c .if2 .taken)
@@ -80,25 +47,7 @@ returns-5 c = value _ _ _ _ _ (c .before .before .before .before .before .before
 pub read-decimal-spec : {M : Type 1} → statement M
 read-decimal-spec =
     tie.close
-    (tie.spec
-    returns
-    sub-point
-    slice-aggregate-signed-digits
-    signed-digits-requires
-    enum-known-minus
-    enum-told
-    returns-2
-    sub-after
-    sub-digits
-    part-digits-start
-    part-digits-end
-    digits-requires
-    enum-known-b
-    enum-told-2
-    returns-3
-    shared-slice-read-if2
-    returns-4
-    mul-ten-thousandths
-    add-ten-thousandths
-    ten-thousandths-requires
-    returns-5)
+    (tie.spec returns (λ c. search needs) slice-aggregate-signed-digits (λ c κs. search needs)
+    (λ c. search needs) enum-told returns-2 (λ c. search needs) (λ c. search needs) (λ c. search needs)
+    (λ c. search needs) (λ c κs. search needs) (λ c. search needs) (λ c. search needs) returns-3
+    (λ c. search needs) returns-4 mul-ten-thousandths add-ten-thousandths ten-thousandths-requires returns-5)

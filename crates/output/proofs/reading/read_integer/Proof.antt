@@ -3,12 +3,6 @@ use Rattle.output.proofs.Parts.{no-integer, casts, turns, negative, pos
 use Rattle.output.proofs.reading.read_integer.Statement.{statement}
 use Rattle.output.proofs.reading.read_integer.Tie as tie
 
-signed-digits-requires : tie.Need-signed-digits-requires
-signed-digits-requires c κs = search needs
-
-enum-known-minus : tie.Need-enum-known-minus
-enum-known-minus c = search needs
-
 enum-told : tie.Need-enum-told
 enum-told c = search needs
 
@@ -33,13 +27,5 @@ returns-3 c = positive _ _ (c .before .before .before .before .signed-digits .en
 pub read-integer-spec : {M : Type 1} → statement M
 read-integer-spec =
     tie.close
-    (tie.spec
-    signed-digits-requires
-    enum-known-minus
-    enum-told
-    returns
-    cast-t6
-    sub-t7
-    returns-2
-    cast-t8
+    (tie.spec (λ c κs. search needs) (λ c. search needs) enum-told returns cast-t6 sub-t7 returns-2 cast-t8
     returns-3)

@@ -18,5 +18,4 @@ returns : tie.Need-returns
 returns c = let k = (counted (c .before .before .args .x) (c .before .row-known .given) (c .before .before .pre .0) (c .before .before .pre .1)) in (ap (λ (n : ℕ). (n + 1) / 2) (c .truncating-f64-to-u64 .ensures) ∙ k .is, omega (arith, k .small, c .truncating-f64-to-u64 .ensures))
 
 pub positive-spec : {M : Type 1} → statement M
-positive-spec =
-    tie.close (tie.spec float-to-float-y truncating-f64-to-u64-requires add-result returns)
+positive-spec = tie.close (tie.spec float-to-float-y truncating-f64-to-u64-requires add-result returns)

@@ -3,12 +3,6 @@ use borrow.Author.Needs.{needs}
 use Rattle.output.proofs.rounding.to_hundredths.Statement.{statement}
 use Rattle.output.proofs.rounding.to_hundredths.Tie as tie
 
-positive-requires : tie.Need-positive-requires
-positive-requires c κs = search needs
-
-cast-t5 : tie.Need-cast-t5
-cast-t5 c = search needs
-
 returns : tie.Need-returns
 returns c = plus-is _ _ (c .before .before .if1 .taken) (c .before .if2 .taken) (c .positive .ensures)
 
@@ -17,9 +11,6 @@ returns-2 c = plus-over _ (c .before .if1 .taken) (c .if2 .left)
 
 positive-requires-2 : tie.Need-positive-requires-2
 positive-requires-2 c κs = minus-in _ (c .before .if3 .taken) (c .if4 .taken)
-
-cast-t10 : tie.Need-cast-t10
-cast-t10 c = search needs
 
 sub-t11 : tie.Need-sub-t11
 sub-t11 c = turns _ (c .positive2 .ensures .1)
@@ -39,15 +30,5 @@ returns-6 c = none-is _ (c .before .before .if1 .left) (c .before .if3 .left) (c
 pub to-hundredths-spec : {M : Type 1} → statement M
 to-hundredths-spec =
     tie.close
-    (tie.spec
-    positive-requires
-    cast-t5
-    returns
-    returns-2
-    positive-requires-2
-    cast-t10
-    sub-t11
-    returns-3
-    returns-4
-    returns-5
-    returns-6)
+    (tie.spec (λ c κs. search needs) (λ c. search needs) returns returns-2 positive-requires-2
+    (λ c. search needs) sub-t11 returns-3 returns-4 returns-5 returns-6)

@@ -20,23 +20,8 @@ size c = c .before .before .magnitude .ensures ∙ ap natAbs (toZ-ofZ w64 _ (c .
 standing : (c : tie.After-start) → Stands (c .before .before .before .before .before .before .magnitude .result) (c .before .before .before .before .before .before .before .before .args .out .now) (c .before .before .before .before .digits .last .1 .0) (c .start .given .0 .0)
 standing c = at _ _ _ _ _ (c .before .before .before .before .digits .ensures) (c .start .given .1)
 
-magnitude-requires : tie.Need-magnitude-requires
-magnitude-requires c κs = search needs
-
-digits-requires : tie.Need-digits-requires
-digits-requires c κs = search needs
-
-enum-known-start : tie.Need-enum-known-start
-enum-known-start c = search needs
-
 enum-told : tie.Need-enum-told
 enum-told c = search needs
-
-fill-requires : tie.Need-fill-requires
-fill-requires c κs = search needs
-
-same-length : tie.Need-same-length
-same-length c = search needs
 
 returns : tie.Need-returns
 returns c = all-stars _ _ _ _ _ (size (c .before .before .before .before .before .before .before .before)) (too-long _ _ _ _ (c .before .before .before .before .before .before .before .before .digits .ensures) (c .before .before .before .before .enum-told .given .1)) (c .before .before .fill .ensures)
@@ -47,26 +32,11 @@ slice-relend-prefix-fill c = let s = standing (c .before .before) in omega (arit
 slice-aggregate-fill : tie.Need-slice-aggregate-fill
 slice-aggregate-fill c = let s = standing (c .before .before .before) in sym (length-take-le _ _ (omega (arith, s .long, s .low)))
 
-fill-requires-2 : tie.Need-fill-requires-2
-fill-requires-2 c κs = search needs
-
-same-length-2 : tie.Need-same-length-2
-same-length-2 c = search needs
-
 returns-2 : tie.Need-returns-2
 returns-2 c = plus _ _ _ _ _ _ (size (c .before .before .before .before .before .before .before .before .before .before)) (is-plus w64 _ (c .before .before .before .before .before .before .before .before .before .before .before .before .before .before .fits .v) (c .before .before .before .before .if1 .taken)) (standing (c .before .before .before .before .before .before)) (c .before .before .fill2 .ensures)
 
-fill-requires-3 : tie.Need-fill-requires-3
-fill-requires-3 c κs = search needs
-
-same-length-3 : tie.Need-same-length-3
-same-length-3 c = search needs
-
 returns-3 : tie.Need-returns-3
 returns-3 c = no-room _ _ _ _ _ _ (size (c .before .before .before .before .before .before .before .before .before .before .before)) (is-minus w64 _ (c .before .before .before .before .before .before .before .before .before .before .before .before .before .before .before .fits .v) (c .before .before .before .before .before .if1 .left)) (standing (c .before .before .before .before .before .before .before)) (c .before .before .before .before .if2 .taken) (c .before .before .fill3 .ensures)
-
-sub-sign : tie.Need-sub-sign
-sub-sign c = search needs
 
 slice-write-out : tie.Need-slice-write-out
 slice-write-out c = let s = standing (c .before .before .before) in omega (arith, s .long, s .low)
@@ -77,9 +47,6 @@ slice-relend-prefix-fill-2 c = let s = standing (c .before .before .before) in s
 slice-aggregate-fill-2 : tie.Need-slice-aggregate-fill-2
 slice-aggregate-fill-2 c = let s = standing (c .before .before .before .before) in sym (length-take-le _ _ (simp length-set (omega (arith, s .long, s .low))))
 
-fill-requires-4 : tie.Need-fill-requires-4
-fill-requires-4 c κs = search needs
-
 returns-4 : tie.Need-returns-4
 returns-4 c = minus _ _ _ _ _ _ (size (c .before .before .before .before .before .before .before .before .before .before .before)) (is-minus w64 _ (c .before .before .before .before .before .before .before .before .before .before .before .before .before .before .before .fits .v) (c .before .before .before .before .before .if1 .left)) (standing (c .before .before .before .before .before .before .before)) (c .before .before .before .before .if2 .left) (c .before .before .fill4 .ensures)
 
@@ -89,26 +56,8 @@ same-length-4 c = ap length (returns-4 c) ∙ field-length _ _
 pub i-spec : {M : Type 1} → statement M
 i-spec =
     tie.close
-    (tie.spec
-    magnitude-requires
-    digits-requires
-    enum-known-start
-    enum-told
-    fill-requires
-    same-length
-    returns
-    slice-relend-prefix-fill
-    slice-aggregate-fill
-    fill-requires-2
-    same-length-2
-    returns-2
-    fill-requires-3
-    same-length-3
-    returns-3
-    sub-sign
-    slice-write-out
-    slice-relend-prefix-fill-2
-    slice-aggregate-fill-2
-    fill-requires-4
-    same-length-4
-    returns-4)
+    (tie.spec (λ c κs. search needs) (λ c κs. search needs) (λ c. search needs) enum-told
+    (λ c κs. search needs) (λ c. search needs) returns slice-relend-prefix-fill slice-aggregate-fill
+    (λ c κs. search needs) (λ c. search needs) returns-2 (λ c κs. search needs) (λ c. search needs) returns-3
+    (λ c. search needs) slice-write-out slice-relend-prefix-fill-2 slice-aggregate-fill-2
+    (λ c κs. search needs) same-length-4 returns-4)

@@ -7,12 +7,6 @@ use Rattle.parameters.proofs.model.curtain_elevation_threshold.Tie as t
 enum-told : tie.Need-enum-told
 enum-told c = search needs
 
-enum-told-2 : tie.Need-enum-told-2
-enum-told-2 c = search needs
-
-enum-known-model : tie.Need-enum-known-model
-enum-known-model c = search needs
-
 returns : tie.Need-returns
 unfolding curtainElevationThreshold round ofBits
 returns c = rw (c .enum-told .given .1)
@@ -32,4 +26,4 @@ returns-4 c = rw (c .before .before .model .given .1, c .if1 .left)
 pub curtain-elevation-threshold-spec : {M : Type 1} → statement M
 curtain-elevation-threshold-spec =
     tie.close
-    (tie.spec enum-told enum-told-2 enum-known-model returns returns-2 returns-3 returns-4)
+    (tie.spec enum-told (λ c. search needs) (λ c. search needs) returns returns-2 returns-3 returns-4)

@@ -5,60 +5,6 @@ use Rattle.parameters.proofs.Types.{no-type, is-type}
 use Rattle.parameters.proofs.params.ioninit.Statement.{statement}
 use Rattle.parameters.proofs.params.ioninit.Tie as tie
 
-element-copy-out-s6 : tie.Need-element-copy-out-s6
-element-copy-out-s6 c = search needs
-
-element-copy-out-s7 : tie.Need-element-copy-out-s7
-element-copy-out-s7 c = search needs
-
-element-copy-out-s8 : tie.Need-element-copy-out-s8
-element-copy-out-s8 c = search needs
-
-element-copy-out-s9 : tie.Need-element-copy-out-s9
-element-copy-out-s9 c = search needs
-
-element-copy-out-s10 : tie.Need-element-copy-out-s10
-element-copy-out-s10 c = search needs
-
-element-copy-out-s11 : tie.Need-element-copy-out-s11
-element-copy-out-s11 c = search needs
-
-element-copy-out-s12 : tie.Need-element-copy-out-s12
-element-copy-out-s12 c = search needs
-
-params-requires : tie.Need-params-requires
-params-requires c κs = search needs
-
-params-requires-2 : tie.Need-params-requires-2
-params-requires-2 c κs = search needs
-
-params-requires-3 : tie.Need-params-requires-3
-params-requires-3 c κs = search needs
-
-params-requires-4 : tie.Need-params-requires-4
-params-requires-4 c κs = search needs
-
-params-requires-5 : tie.Need-params-requires-5
-params-requires-5 c κs = search needs
-
-params-requires-6 : tie.Need-params-requires-6
-params-requires-6 c κs = search needs
-
-params-requires-7 : tie.Need-params-requires-7
-params-requires-7 c κs = search needs
-
-params-requires-8 : tie.Need-params-requires-8
-params-requires-8 c κs = search needs
-
-params-requires-9 : tie.Need-params-requires-9
-params-requires-9 c κs = search needs
-
-params-requires-10 : tie.Need-params-requires-10
-params-requires-10 c κs = search needs
-
-params-requires-11 : tie.Need-params-requires-11
-params-requires-11 c κs = search needs
-
 returns : tie.Need-returns
 unfolding ioninitOf isType round ofBits
 returns c = rw (is-type (c .before .before .before .before .before .before .before .before .before .args .index) (search needs) (c .before .match .keys1)) (c .params .ensures)
@@ -117,33 +63,9 @@ returns-11 c = let r = c .before .match .rest in rw (
 pub ioninit-spec : {M : Type 1} → statement M
 ioninit-spec =
     tie.close
-    (tie.spec
-    element-copy-out-s6
-    element-copy-out-s7
-    element-copy-out-s8
-    element-copy-out-s9
-    element-copy-out-s10
-    element-copy-out-s11
-    element-copy-out-s12
-    params-requires
-    params-requires-2
-    params-requires-3
-    params-requires-4
-    params-requires-5
-    params-requires-6
-    params-requires-7
-    params-requires-8
-    params-requires-9
-    params-requires-10
-    params-requires-11
-    returns
-    returns-2
-    returns-3
-    returns-4
-    returns-5
-    returns-6
-    returns-7
-    returns-8
-    returns-9
-    returns-10
-    returns-11)
+    (tie.spec (λ c. search needs) (λ c. search needs) (λ c. search needs) (λ c. search needs)
+    (λ c. search needs) (λ c. search needs) (λ c. search needs) (λ c κs. search needs) (λ c κs. search needs)
+    (λ c κs. search needs) (λ c κs. search needs) (λ c κs. search needs) (λ c κs. search needs)
+    (λ c κs. search needs) (λ c κs. search needs) (λ c κs. search needs) (λ c κs. search needs)
+    (λ c κs. search needs) returns returns-2 returns-3 returns-4 returns-5 returns-6 returns-7 returns-8
+    returns-9 returns-10 returns-11)

@@ -5,19 +5,11 @@ use borrow.Author.Needs.{needs}
 use Rattle.patterns.proofs.antenna.antenna_of.Statement.{statement}
 use Rattle.patterns.proofs.antenna.antenna_of.Tie as tie
 
-read-length-requires : tie.Need-read-length-requires
-read-length-requires c κs = search needs
-
-read-length-requires-2 : tie.Need-read-length-requires-2
-read-length-requires-2 c κs = search needs
-
-azimuth-of-requires : tie.Need-azimuth-of-requires
-azimuth-of-requires c κs = search needs
-
 returns : tie.Need-returns
 unfolding antennaOf
 returns c = rw (toZ-ofZ w32 (c .before .before .before .args .kop) (search needs), ← c .before .before .read-length .ensures, ← c .before .read-length2 .ensures, ← c .azimuth-of .ensures)
 
 pub antenna-of-spec : {M : Type 1} → statement M
 antenna-of-spec =
-    tie.close (tie.spec read-length-requires read-length-requires-2 azimuth-of-requires returns)
+    tie.close
+    (tie.spec (λ c κs. search needs) (λ c κs. search needs) (λ c κs. search needs) returns)

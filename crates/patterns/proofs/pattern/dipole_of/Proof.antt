@@ -27,5 +27,4 @@ unfolding dipoleOf round ofBits neg
 returns-2 c = rw (← c .before .before .before .dipole-row .ensures, c .before .row .given .1)
 
 pub dipole-of-spec : {M : Type 1} → statement M
-dipole-of-spec =
-    tie.close (tie.spec dipole-row-requires enum-known-row enum-told returns returns-2)
+dipole-of-spec = tie.close (tie.spec dipole-row-requires enum-known-row enum-told returns returns-2)

@@ -27,5 +27,4 @@ unfolding invertedLOf round ofBits neg
 returns-2 c = rw (← c .before .before .before .inverted-l-row .ensures, c .before .row .given .1)
 
 pub inverted-l-of-spec : {M : Type 1} → statement M
-inverted-l-of-spec =
-    tie.close (tie.spec inverted-l-row-requires enum-known-row enum-told returns returns-2)
+inverted-l-of-spec = tie.close (tie.spec inverted-l-row-requires enum-known-row enum-told returns returns-2)

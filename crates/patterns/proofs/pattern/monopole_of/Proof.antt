@@ -27,5 +27,4 @@ unfolding monopoleFor round ofBits neg
 returns-2 c = rw (← c .before .before .before .monopole-row .ensures, c .before .row .given .1)
 
 pub monopole-of-spec : {M : Type 1} → statement M
-monopole-of-spec =
-    tie.close (tie.spec monopole-row-requires enum-known-row enum-told returns returns-2)
+monopole-of-spec = tie.close (tie.spec monopole-row-requires enum-known-row enum-told returns returns-2)

@@ -5,81 +5,6 @@ use borrow.Author.Needs.{needs}
 use Rattle.patterns.proofs.pattern.pattern_of.Statement.{statement}
 use Rattle.patterns.proofs.pattern.pattern_of.Tie as tie
 
-leg-in-waves-requires : tie.Need-leg-in-waves-requires
-leg-in-waves-requires c κs = search needs
-
-height-in-waves-requires : tie.Need-height-in-waves-requires
-height-in-waves-requires c κs = search needs
-
-legs-of-requires : tie.Need-legs-of-requires
-legs-of-requires c κs = search needs
-
-settled-requires : tie.Need-settled-requires
-settled-requires c κs = search needs
-
-legs-of-requires-2 : tie.Need-legs-of-requires-2
-legs-of-requires-2 c κs = search needs
-
-array-read-offset-of : tie.Need-array-read-offset-of
-array-read-offset-of c = search needs
-
-array-read-offset-of-2 : tie.Need-array-read-offset-of-2
-array-read-offset-of-2 c = search needs
-
-offset-of-requires : tie.Need-offset-of-requires
-offset-of-requires c κs = search needs
-
-settled-requires-2 : tie.Need-settled-requires-2
-settled-requires-2 c κs = search needs
-
-inverted-l-of-requires : tie.Need-inverted-l-of-requires
-inverted-l-of-requires c κs = search needs
-
-array-read-vee-slope : tie.Need-array-read-vee-slope
-array-read-vee-slope c = search needs
-
-vee-slope-requires : tie.Need-vee-slope-requires
-vee-slope-requires c κs = search needs
-
-settled-requires-3 : tie.Need-settled-requires-3
-settled-requires-3 c κs = search needs
-
-array-read-rhombic-slope : tie.Need-array-read-rhombic-slope
-array-read-rhombic-slope c = search needs
-
-rhombic-slope-requires : tie.Need-rhombic-slope-requires
-rhombic-slope-requires c κs = search needs
-
-settled-requires-4 : tie.Need-settled-requires-4
-settled-requires-4 c κs = search needs
-
-array-read-curtain-card : tie.Need-array-read-curtain-card
-array-read-curtain-card c = search needs
-
-curtain-card-requires : tie.Need-curtain-card-requires
-curtain-card-requires c κs = search needs
-
-curtain-row-requires : tie.Need-curtain-row-requires
-curtain-row-requires c κs = search needs
-
-settled-requires-5 : tie.Need-settled-requires-5
-settled-requires-5 c κs = search needs
-
-dipole-of-requires : tie.Need-dipole-of-requires
-dipole-of-requires c κs = search needs
-
-dipole-of-requires-2 : tie.Need-dipole-of-requires-2
-dipole-of-requires-2 c κs = search needs
-
-monopole-of-requires : tie.Need-monopole-of-requires
-monopole-of-requires c κs = search needs
-
-monopole-of-requires-2 : tie.Need-monopole-of-requires-2
-monopole-of-requires-2 c κs = search needs
-
-settled-requires-6 : tie.Need-settled-requires-6
-settled-requires-6 c κs = search needs
-
 returns : tie.Need-returns
 unfolding patternOf isType
 returns c = rw (is-type (c .before .before .before .before .before .before .before .before .before .args .antenna .kop) (search needs) (c .before .before .match .keys1)) (rw (← c .before .before .before .before .leg-in-waves .ensures, ← c .before .before .before .height-in-waves .ensures, ← c .before .legs-of .ensures) (c .settled .ensures))
@@ -139,40 +64,11 @@ returns-11 c = let r = c .before .match .rest in
 pub pattern-of-spec : {M : Type 1} → statement M
 pattern-of-spec =
     tie.close
-    (tie.spec
-    leg-in-waves-requires
-    height-in-waves-requires
-    legs-of-requires
-    settled-requires
-    legs-of-requires-2
-    array-read-offset-of
-    array-read-offset-of-2
-    offset-of-requires
-    settled-requires-2
-    inverted-l-of-requires
-    array-read-vee-slope
-    vee-slope-requires
-    settled-requires-3
-    array-read-rhombic-slope
-    rhombic-slope-requires
-    settled-requires-4
-    array-read-curtain-card
-    curtain-card-requires
-    curtain-row-requires
-    settled-requires-5
-    dipole-of-requires
-    dipole-of-requires-2
-    monopole-of-requires
-    monopole-of-requires-2
-    settled-requires-6
-    returns
-    returns-2
-    returns-3
-    returns-4
-    returns-5
-    returns-6
-    returns-7
-    returns-8
-    returns-9
-    returns-10
-    returns-11)
+    (tie.spec (λ c κs. search needs) (λ c κs. search needs) (λ c κs. search needs) (λ c κs. search needs)
+    (λ c κs. search needs) (λ c. search needs) (λ c. search needs) (λ c κs. search needs)
+    (λ c κs. search needs) (λ c κs. search needs) (λ c. search needs) (λ c κs. search needs)
+    (λ c κs. search needs) (λ c. search needs) (λ c κs. search needs) (λ c κs. search needs)
+    (λ c. search needs) (λ c κs. search needs) (λ c κs. search needs) (λ c κs. search needs)
+    (λ c κs. search needs) (λ c κs. search needs) (λ c κs. search needs) (λ c κs. search needs)
+    (λ c κs. search needs) returns returns-2 returns-3 returns-4 returns-5 returns-6 returns-7 returns-8
+    returns-9 returns-10 returns-11)

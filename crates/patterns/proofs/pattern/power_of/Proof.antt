@@ -116,29 +116,8 @@ returns-9 c = rw (c .enum-told2 .given .1)
 pub power-of-spec : {M : Type 1} → statement M
 power-of-spec =
     tie.close
-    (tie.spec
-    enum-known-pattern
-    rhombic-rain-requires
-    enum-known-pattern-2
-    interlaced-rain-requires
-    enum-known-pattern-3
-    vee-rain-requires
-    enum-known-pattern-4
-    sloping-rhombic-rain-requires
-    enum-known-pattern-5
-    dipole-rain-requires
-    enum-known-pattern-6
-    monopole-rain-requires
-    enum-known-pattern-7
-    inverted-l-rain-requires
-    enum-told
-    enum-told-2
-    returns
-    returns-2
-    returns-3
-    returns-4
-    returns-5
-    returns-6
-    returns-7
-    returns-8
-    returns-9)
+    (tie.spec enum-known-pattern rhombic-rain-requires enum-known-pattern-2 interlaced-rain-requires
+    enum-known-pattern-3 vee-rain-requires enum-known-pattern-4 sloping-rhombic-rain-requires
+    enum-known-pattern-5 dipole-rain-requires enum-known-pattern-6 monopole-rain-requires enum-known-pattern-7
+    inverted-l-rain-requires enum-told enum-told-2 returns returns-2 returns-3 returns-4 returns-5 returns-6
+    returns-7 returns-8 returns-9)

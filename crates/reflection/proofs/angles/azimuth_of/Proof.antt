@@ -3,15 +3,9 @@ use borrow.Author.Needs.{needs}
 use Rattle.reflection.proofs.angles.azimuth_of.Statement.{statement}
 use Rattle.reflection.proofs.angles.azimuth_of.Tie as tie
 
-radians-of-requires : tie.Need-radians-of-requires
-radians-of-requires c κs = search needs
-
-sin-cos-requires : tie.Need-sin-cos-requires
-sin-cos-requires c κs = search needs
-
 returns : tie.Need-returns
 unfolding azimuthOf
 returns c = rw (← c .before .radians-of .ensures, ← c .sin-cos .ensures .0, ← c .sin-cos .ensures .1)
 
 pub azimuth-of-spec : {M : Type 1} → statement M
-azimuth-of-spec = tie.close (tie.spec radians-of-requires sin-cos-requires returns)
+azimuth-of-spec = tie.close (tie.spec (λ c κs. search needs) (λ c κs. search needs) returns)

@@ -4,18 +4,6 @@ use borrow.Author.Needs.{needs}
 use Rattle.reflection.proofs.ground.horizontal.Statement.{statement}
 use Rattle.reflection.proofs.ground.horizontal.Tie as tie
 
-sin-cos-requires : tie.Need-sin-cos-requires
-sin-cos-requires c κs = search needs
-
-atan-requires : tie.Need-atan-requires
-atan-requires c κs = search needs
-
-cos-requires : tie.Need-cos-requires
-cos-requires c κs = search needs
-
-sqrt-requires : tie.Need-sqrt-requires
-sqrt-requires c κs = search needs
-
 returns : tie.Need-returns
 unfolding psihOf chOf horizontalOf round ofBits
 returns c = rw (
@@ -28,4 +16,6 @@ returns c = rw (
 
 pub horizontal-spec : {M : Type 1} → statement M
 horizontal-spec =
-    tie.close (tie.spec sin-cos-requires atan-requires cos-requires sqrt-requires returns)
+    tie.close
+    (tie.spec (λ c κs. search needs) (λ c κs. search needs) (λ c κs. search needs) (λ c κs. search needs)
+    returns)

@@ -4,9 +4,6 @@ use borrow.Author.Needs.{needs}
 use Rattle.reflection.proofs.ground.psiv.Statement.{statement}
 use Rattle.reflection.proofs.ground.psiv.Tie as tie
 
-atan-requires : tie.Need-atan-requires
-atan-requires c κs = search needs
-
 returns : tie.Need-returns
 unfolding psivOf round ofBits
 returns c = rw (c .before .if1 .taken, ← c .atan .ensures)
@@ -23,9 +20,6 @@ returns-4 : tie.Need-returns-4
 unfolding psivOf round ofBits
 returns-4 c = rw (c .before .before .before .if1 .left, c .before .before .if2 .taken, c .before .if3 .left, c .if4 .left)
 
-atan-requires-2 : tie.Need-atan-requires-2
-atan-requires-2 c κs = search needs
-
 returns-5 : tie.Need-returns-5
 unfolding psivOf round ofBits
 returns-5 c = rw (c .before .before .if1 .left, c .before .if2 .left, ← c .atan2 .ensures)
@@ -33,4 +27,4 @@ returns-5 c = rw (c .before .before .if1 .left, c .before .if2 .left, ← c .ata
 pub psiv-spec : {M : Type 1} → statement M
 psiv-spec =
     tie.close
-    (tie.spec atan-requires returns returns-2 returns-3 returns-4 atan-requires-2 returns-5)
+    (tie.spec (λ c κs. search needs) returns returns-2 returns-3 returns-4 (λ c κs. search needs) returns-5)

@@ -4,9 +4,6 @@ use borrow.Author.Needs.{needs}
 use Rattle.reflection.proofs.ground.without_small_difference.Statement.{statement}
 use Rattle.reflection.proofs.ground.without_small_difference.Tie as tie
 
-abs-requires : tie.Need-abs-requires
-abs-requires c κs = search needs
-
 returns : tie.Need-returns
 unfolding withoutSmallDifference round ofBits
 returns c = rw (← c .before .abs .ensures, c .if1 .taken)
@@ -16,4 +13,4 @@ unfolding withoutSmallDifference round ofBits
 returns-2 c = rw (← c .before .abs .ensures, c .if1 .left)
 
 pub without-small-difference-spec : {M : Type 1} → statement M
-without-small-difference-spec = tie.close (tie.spec abs-requires returns returns-2)
+without-small-difference-spec = tie.close (tie.spec (λ c κs. search needs) returns returns-2)

@@ -4,12 +4,9 @@ use borrow.Author.Needs.{needs}
 use Rattle.resistance.proofs.resistance.cin_of.Statement.{statement}
 use Rattle.resistance.proofs.resistance.cin_of.Tie as tie
 
-ln-requires : tie.Need-ln-requires
-ln-requires c κs = search needs
-
 returns : tie.Need-returns
 unfolding cinOf round ofBits
 returns c = rw (← c .ln .ensures)
 
 pub cin-of-spec : {M : Type 1} → statement M
-cin-of-spec = tie.close (tie.spec ln-requires returns)
+cin-of-spec = tie.close (tie.spec (λ c κs. search needs) returns)

@@ -4,15 +4,6 @@ use borrow.Author.Needs.{needs}
 use Rattle.resistance.proofs.resistance.resistance_from.Statement.{statement}
 use Rattle.resistance.proofs.resistance.resistance_from.Tie as tie
 
-sin-cos-requires : tie.Need-sin-cos-requires
-sin-cos-requires c κs = search needs
-
-cin-of-requires : tie.Need-cin-of-requires
-cin-of-requires c κs = search needs
-
-cin-of-requires-2 : tie.Need-cin-of-requires-2
-cin-of-requires-2 c κs = search needs
-
 returns : tie.Need-returns
 unfolding resistanceFrom round ofBits
 returns c = rw (
@@ -24,4 +15,5 @@ returns c = rw (
 
 pub resistance-from-spec : {M : Type 1} → statement M
 resistance-from-spec =
-    tie.close (tie.spec sin-cos-requires cin-of-requires cin-of-requires-2 returns)
+    tie.close
+    (tie.spec (λ c κs. search needs) (λ c κs. search needs) (λ c κs. search needs) returns)

@@ -3,21 +3,12 @@ use borrow.Author.Needs.{needs}
 use Rattle.resistance.proofs.resistance.resistance_of.Statement.{statement}
 use Rattle.resistance.proofs.resistance.resistance_of.Tie as tie
 
-integral-pair-requires : tie.Need-integral-pair-requires
-integral-pair-requires c κs = search needs
-
-enum-known-dw : tie.Need-enum-known-dw
-enum-known-dw c = search needs
-
 enum-told : tie.Need-enum-told
 enum-told c = search needs
 
 returns : tie.Need-returns
 unfolding resistanceOf
 returns c = rw (← c .before .before .integral-pair .ensures, c .enum-told .given .1)
-
-resistance-from-requires : tie.Need-resistance-from-requires
-resistance-from-requires c κs = search needs
 
 returns-2 : tie.Need-returns-2
 unfolding resistanceOf
@@ -30,10 +21,4 @@ returns-2 c = rw (
 pub resistance-of-spec : {M : Type 1} → statement M
 resistance-of-spec =
     tie.close
-    (tie.spec
-    integral-pair-requires
-    enum-known-dw
-    enum-told
-    returns
-    resistance-from-requires
-    returns-2)
+    (tie.spec (λ c κs. search needs) (λ c. search needs) enum-told returns (λ c κs. search needs) returns-2)

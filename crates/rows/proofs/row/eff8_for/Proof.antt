@@ -1,4 +1,4 @@
-use mathlib.Core.Path.{_≡_}
+use mathlib.Core.Path.{_≡_, refl}
 use mathlib.Core.List.{[], _∷_}
 use types.Run.{OneOf, miss}
 use denote.Enum.Declared.{tagOf}
@@ -6,15 +6,11 @@ use Rattle.patterns.specs.declared.pattern.Pattern.{Pattern}
 use Rattle.patterns.specs.declared.pattern.Pattern.the-variants as P
 use Rattle.patterns.proofs.pattern.Pattern.{the-type}
 use Rattle.single.specs.Single.{num}
-use mathlib.Core.Path.{refl}
 use lib.Ieee.{round, ofBits}
 use Rattle.rows.specs.Row.{eff8For}
 use borrow.Author.Needs.{needs}
 use Rattle.rows.proofs.row.eff8_for.Statement.{statement}
 use Rattle.rows.proofs.row.eff8_for.Tie as tie
-
-enum-known-pattern : tie.Need-enum-known-pattern
-enum-known-pattern c = search needs
 
 returns : tie.Need-returns
 unfolding eff8For
@@ -37,4 +33,4 @@ unfolding round ofBits
 returns-2 c = other (c .before .args .pattern) (c .match .keys2)
 
 pub eff8-for-spec : {M : Type 1} → statement M
-eff8-for-spec = tie.close (tie.spec enum-known-pattern returns returns-2)
+eff8-for-spec = tie.close (tie.spec (λ c. search needs) returns returns-2)

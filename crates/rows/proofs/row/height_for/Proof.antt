@@ -6,12 +6,6 @@ use borrow.Author.Needs.{needs}
 use Rattle.rows.proofs.row.height_for.Statement.{statement}
 use Rattle.rows.proofs.row.height_for.Tie as tie
 
-monopole-in-waves-requires : tie.Need-monopole-in-waves-requires
-monopole-in-waves-requires c κs = search needs
-
-monopole-in-waves-requires-2 : tie.Need-monopole-in-waves-requires-2
-monopole-in-waves-requires-2 c κs = search needs
-
 returns : tie.Need-returns
 unfolding heightFor isType
 returns c = rw (is-type (c .before .before .args .kop) (search needs) (c .before .match .keys1)) (rw (← c .monopole-in-waves .ensures))
@@ -27,4 +21,4 @@ returns-3 c = let r = c .match .rest in rw (no-type _ 2 (r .0 .1), no-type _ 5 (
 pub height-for-spec : {M : Type 1} → statement M
 height-for-spec =
     tie.close
-    (tie.spec monopole-in-waves-requires monopole-in-waves-requires-2 returns returns-2 returns-3)
+    (tie.spec (λ c κs. search needs) (λ c κs. search needs) returns returns-2 returns-3)

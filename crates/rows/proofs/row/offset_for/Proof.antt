@@ -6,9 +6,6 @@ use borrow.Author.Needs.{needs}
 use Rattle.rows.proofs.row.offset_for.Statement.{statement}
 use Rattle.rows.proofs.row.offset_for.Tie as tie
 
-array-read-result : tie.Need-array-read-result
-array-read-result c = search needs
-
 returns : tie.Need-returns
 unfolding offsetFor isType
 returns c = rw (is-type (c .before .before .args .kop) (search needs) (c .match .keys1))
@@ -30,5 +27,4 @@ unfolding offsetFor
 returns-5 c = let r = c .match .rest in rw (no-type _ 2 (r .0 .0 .0 .1), no-type _ 7 (r .0 .0 .1), no-type _ 9 (r .0 .1), no-type _ 10 (r .1))
 
 pub offset-for-spec : {M : Type 1} → statement M
-offset-for-spec =
-    tie.close (tie.spec array-read-result returns returns-2 returns-3 returns-4 returns-5)
+offset-for-spec = tie.close (tie.spec (λ c. search needs) returns returns-2 returns-3 returns-4 returns-5)

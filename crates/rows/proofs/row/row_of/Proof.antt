@@ -2,21 +2,11 @@ use mathlib.Core.Path.{_≡_, ap, _∙_}
 use lib.IntN.{ℤ}
 use mir.Syntax.{w32}
 use mir.ValLaws.{toZ-ofZ}
-use Rattle.rows.specs.Row.{heightFor, offsetFor}
+use Rattle.rows.specs.Row.{heightFor, offsetFor, rowOf}
 use Rattle.finish.specs.Finish.{efficiencyOf}
-use Rattle.rows.specs.Row.{rowOf}
 use borrow.Author.Needs.{needs}
 use Rattle.rows.proofs.row.row_of.Statement.{statement}
 use Rattle.rows.proofs.row.row_of.Tie as tie
-
-wave-of-requires : tie.Need-wave-of-requires
-wave-of-requires c κs = search needs
-
-pattern-of-requires : tie.Need-pattern-of-requires
-pattern-of-requires c κs = search needs
-
-enum-known-pattern : tie.Need-enum-known-pattern
-enum-known-pattern c = search needs
 
 enum-told : tie.Need-enum-told
 enum-told c = search needs
@@ -24,24 +14,6 @@ enum-told c = search needs
 returns : tie.Need-returns
 unfolding rowOf
 returns c = rw (← c .before .before .before .wave-of .ensures, ← c .before .before .pattern-of .ensures, c .enum-told .given .1)
-
-height-for-requires : tie.Need-height-for-requires
-height-for-requires c κs = search needs
-
-eff8-for-requires : tie.Need-eff8-for-requires
-eff8-for-requires c κs = search needs
-
-soil-of-requires : tie.Need-soil-of-requires
-soil-of-requires c κs = search needs
-
-efficiency-requires : tie.Need-efficiency-requires
-efficiency-requires c κs = search needs
-
-offset-for-requires : tie.Need-offset-for-requires
-offset-for-requires c κs = search needs
-
-curtain-elevation-threshold-requires : tie.Need-curtain-elevation-threshold-requires
-curtain-elevation-threshold-requires c κs = search needs
 
 returns-2 : tie.Need-returns-2
 unfolding rowOf
@@ -56,16 +28,6 @@ returns-2 c = let antenna = c .before .before .before .before .before .before .b
 pub row-of-spec : {M : Type 1} → statement M
 row-of-spec =
     tie.close
-    (tie.spec
-    wave-of-requires
-    pattern-of-requires
-    enum-known-pattern
-    enum-told
-    returns
-    height-for-requires
-    eff8-for-requires
-    soil-of-requires
-    efficiency-requires
-    offset-for-requires
-    curtain-elevation-threshold-requires
-    returns-2)
+    (tie.spec (λ c κs. search needs) (λ c κs. search needs) (λ c. search needs) enum-told returns
+    (λ c κs. search needs) (λ c κs. search needs) (λ c κs. search needs) (λ c κs. search needs)
+    (λ c κs. search needs) (λ c κs. search needs) returns-2)

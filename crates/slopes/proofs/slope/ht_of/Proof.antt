@@ -4,9 +4,6 @@ use borrow.Author.Needs.{needs}
 use Rattle.slopes.proofs.slope.ht_of.Statement.{statement}
 use Rattle.slopes.proofs.slope.ht_of.Tie as tie
 
-abs-requires : tie.Need-abs-requires
-abs-requires c κs = search needs
-
 returns : tie.Need-returns
 unfolding htOf round ofBits
 returns c = rw (c .before .if1 .taken, ← c .abs .ensures)
@@ -16,4 +13,4 @@ unfolding htOf round ofBits
 returns-2 c = rw (c .if1 .left)
 
 pub ht-of-spec : {M : Type 1} → statement M
-ht-of-spec = tie.close (tie.spec abs-requires returns returns-2)
+ht-of-spec = tie.close (tie.spec (λ c κs. search needs) returns returns-2)

@@ -3,12 +3,6 @@ use borrow.Author.Needs.{needs}
 use Rattle.sloping_patterns.proofs.direction.reflected_of.Statement.{statement}
 use Rattle.sloping_patterns.proofs.direction.reflected_of.Tie as tie
 
-sin-cos-requires : tie.Need-sin-cos-requires
-sin-cos-requires c κs = search needs
-
-sin-cos-requires-2 : tie.Need-sin-cos-requires-2
-sin-cos-requires-2 c κs = search needs
-
 returns : tie.Need-returns
 unfolding reflectedOf
 returns c = rw (
@@ -19,4 +13,4 @@ returns c = rw (
 )
 
 pub reflected-of-spec : {M : Type 1} → statement M
-reflected-of-spec = tie.close (tie.spec sin-cos-requires sin-cos-requires-2 returns)
+reflected-of-spec = tie.close (tie.spec (λ c κs. search needs) (λ c κs. search needs) returns)

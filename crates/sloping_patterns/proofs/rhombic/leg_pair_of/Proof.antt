@@ -4,15 +4,6 @@ use borrow.Author.Needs.{needs}
 use Rattle.sloping_patterns.proofs.rhombic.leg_pair_of.Statement.{statement}
 use Rattle.sloping_patterns.proofs.rhombic.leg_pair_of.Tie as tie
 
-sin-cos-requires : tie.Need-sin-cos-requires
-sin-cos-requires c κs = search needs
-
-sin-cos-requires-2 : tie.Need-sin-cos-requires-2
-sin-cos-requires-2 c κs = search needs
-
-sin-cos-requires-3 : tie.Need-sin-cos-requires-3
-sin-cos-requires-3 c κs = search needs
-
 returns : tie.Need-returns
 unfolding legPairOf round ofBits
 returns c = rw (
@@ -26,4 +17,5 @@ returns c = rw (
 
 pub leg-pair-of-spec : {M : Type 1} → statement M
 leg-pair-of-spec =
-    tie.close (tie.spec sin-cos-requires sin-cos-requires-2 sin-cos-requires-3 returns)
+    tie.close
+    (tie.spec (λ c κs. search needs) (λ c κs. search needs) (λ c κs. search needs) returns)

@@ -4,24 +4,6 @@ use borrow.Author.Needs.{needs}
 use Rattle.sloping_patterns.proofs.rhombic.sloping_rhombic_rain.Statement.{statement}
 use Rattle.sloping_patterns.proofs.rhombic.sloping_rhombic_rain.Tie as tie
 
-direction-of-requires : tie.Need-direction-of-requires
-direction-of-requires c κs = search needs
-
-leg-pair-of-requires : tie.Need-leg-pair-of-requires
-leg-pair-of-requires c κs = search needs
-
-leg-pair-of-requires-2 : tie.Need-leg-pair-of-requires-2
-leg-pair-of-requires-2 c κs = search needs
-
-reflected-of-requires : tie.Need-reflected-of-requires
-reflected-of-requires c κs = search needs
-
-field-of-requires : tie.Need-field-of-requires
-field-of-requires c κs = search needs
-
-field-of-requires-2 : tie.Need-field-of-requires-2
-field-of-requires-2 c κs = search needs
-
 returns : tie.Need-returns
 unfolding slopingRhombicRain round ofBits
 returns c = rw (
@@ -36,11 +18,5 @@ returns c = rw (
 pub sloping-rhombic-rain-spec : {M : Type 1} → statement M
 sloping-rhombic-rain-spec =
     tie.close
-    (tie.spec
-    direction-of-requires
-    leg-pair-of-requires
-    leg-pair-of-requires-2
-    reflected-of-requires
-    field-of-requires
-    field-of-requires-2
-    returns)
+    (tie.spec (λ c κs. search needs) (λ c κs. search needs) (λ c κs. search needs) (λ c κs. search needs)
+    (λ c κs. search needs) (λ c κs. search needs) returns)

@@ -4,18 +4,6 @@ use borrow.Author.Needs.{needs}
 use Rattle.sloping_patterns.proofs.vee.leg_phases_of.Statement.{statement}
 use Rattle.sloping_patterns.proofs.vee.leg_phases_of.Tie as tie
 
-sin-cos-requires : tie.Need-sin-cos-requires
-sin-cos-requires c κs = search needs
-
-sin-cos-requires-2 : tie.Need-sin-cos-requires-2
-sin-cos-requires-2 c κs = search needs
-
-sin-cos-requires-3 : tie.Need-sin-cos-requires-3
-sin-cos-requires-3 c κs = search needs
-
-sin-cos-requires-4 : tie.Need-sin-cos-requires-4
-sin-cos-requires-4 c κs = search needs
-
 returns : tie.Need-returns
 unfolding legPhasesOf round ofBits
 returns c = rw (
@@ -32,4 +20,5 @@ returns c = rw (
 pub leg-phases-of-spec : {M : Type 1} → statement M
 leg-phases-of-spec =
     tie.close
-    (tie.spec sin-cos-requires sin-cos-requires-2 sin-cos-requires-3 sin-cos-requires-4 returns)
+    (tie.spec (λ c κs. search needs) (λ c κs. search needs) (λ c κs. search needs) (λ c κs. search needs)
+    returns)

@@ -4,21 +4,6 @@ use borrow.Author.Needs.{needs}
 use Rattle.sloping_patterns.proofs.vee.vee_rain.Statement.{statement}
 use Rattle.sloping_patterns.proofs.vee.vee_rain.Tie as tie
 
-direction-of-requires : tie.Need-direction-of-requires
-direction-of-requires c κs = search needs
-
-reflected-of-requires : tie.Need-reflected-of-requires
-reflected-of-requires c κs = search needs
-
-leg-phases-of-requires : tie.Need-leg-phases-of-requires
-leg-phases-of-requires c κs = search needs
-
-horizontal-of-requires : tie.Need-horizontal-of-requires
-horizontal-of-requires c κs = search needs
-
-vertical-of-requires : tie.Need-vertical-of-requires
-vertical-of-requires c κs = search needs
-
 returns : tie.Need-returns
 unfolding veeRain round ofBits
 returns c = rw (
@@ -32,10 +17,5 @@ returns c = rw (
 pub vee-rain-spec : {M : Type 1} → statement M
 vee-rain-spec =
     tie.close
-    (tie.spec
-    direction-of-requires
-    reflected-of-requires
-    leg-phases-of-requires
-    horizontal-of-requires
-    vertical-of-requires
-    returns)
+    (tie.spec (λ c κs. search needs) (λ c κs. search needs) (λ c κs. search needs) (λ c κs. search needs)
+    (λ c κs. search needs) returns)

@@ -4,15 +4,9 @@ use borrow.Author.Needs.{needs}
 use Rattle.trigonometric.proofs.trigonometric.cosine_at.Statement.{statement}
 use Rattle.trigonometric.proofs.trigonometric.cosine_at.Tie as tie
 
-mul-result : tie.Need-mul-result
-mul-result c = search needs
-
-array-read-result : tie.Need-array-read-result
-array-read-result c = search needs
-
 returns : tie.Need-returns
 unfolding cosineAt
 returns c = by-quadrant (c .args .q) _ _ _ _ (c .pre)
 
 pub cosine-at-spec : {M : Type 1} → statement M
-cosine-at-spec = tie.close (tie.spec mul-result array-read-result returns)
+cosine-at-spec = tie.close (tie.spec (λ c. search needs) (λ c. search needs) returns)

@@ -3,9 +3,6 @@ use borrow.Author.Needs.{needs}
 use Rattle.trigonometric.proofs.trigonometric.quadrant.Statement.{statement}
 use Rattle.trigonometric.proofs.trigonometric.quadrant.Tie as tie
 
-sub-result : tie.Need-sub-result
-sub-result c = search needs
-
 returns : tie.Need-returns
 unfolding quadrantBy
 returns c = rw (c .if1 .taken)
@@ -15,4 +12,4 @@ unfolding quadrantBy
 returns-2 c = rw (c .if1 .left)
 
 pub quadrant-spec : {M : Type 1} → statement M
-quadrant-spec = tie.close (tie.spec sub-result returns returns-2)
+quadrant-spec = tie.close (tie.spec (λ c. search needs) returns returns-2)

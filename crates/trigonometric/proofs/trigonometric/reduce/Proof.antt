@@ -6,20 +6,8 @@ use borrow.Author.Needs.{needs}
 use Rattle.trigonometric.proofs.trigonometric.reduce.Statement.{statement}
 use Rattle.trigonometric.proofs.trigonometric.reduce.Tie as tie
 
-turns-argument-requires : tie.Need-turns-argument-requires
-turns-argument-requires c κs = search needs
-
 whole-part-requires : tie.Need-whole-part-requires
 whole-part-requires c κs = subst (Mag (2 ^ 21)) (sym (c .turns-argument .ensures)) (argument-mag (c .before .args .x) (c .before .pre))
-
-turns-float-requires : tie.Need-turns-float-requires
-turns-float-requires c κs = search needs
-
-rest-of-requires : tie.Need-rest-of-requires
-rest-of-requires c κs = search needs
-
-quadrant-requires : tie.Need-quadrant-requires
-quadrant-requires c κs = search needs
 
 returns : tie.Need-returns
 returns c =
@@ -29,10 +17,5 @@ returns c =
 pub reduce-spec : {M : Type 1} → statement M
 reduce-spec =
     tie.close
-    (tie.spec
-    turns-argument-requires
-    whole-part-requires
-    turns-float-requires
-    rest-of-requires
-    quadrant-requires
-    returns)
+    (tie.spec (λ c κs. search needs) whole-part-requires (λ c κs. search needs) (λ c κs. search needs)
+    (λ c κs. search needs) returns)

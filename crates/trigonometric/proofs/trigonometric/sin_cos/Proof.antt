@@ -4,23 +4,8 @@ use borrow.Author.Needs.{needs}
 use Rattle.trigonometric.proofs.trigonometric.sin_cos.Statement.{statement}
 use Rattle.trigonometric.proofs.trigonometric.sin_cos.Tie as tie
 
-in-range-requires : tie.Need-in-range-requires
-in-range-requires c κs = search needs
-
 reduce-requires : tie.Need-reduce-requires
 reduce-requires c κs = sym (c .before .in-range .ensures) ∙ c .if1 .taken
-
-sine-part-requires : tie.Need-sine-part-requires
-sine-part-requires c κs = search needs
-
-cosine-part-requires : tie.Need-cosine-part-requires
-cosine-part-requires c κs = search needs
-
-sine-at-requires : tie.Need-sine-at-requires
-sine-at-requires c κs = search needs
-
-cosine-at-requires : tie.Need-cosine-at-requires
-cosine-at-requires c κs = search needs
 
 returns : tie.Need-returns
 returns c =
@@ -37,12 +22,5 @@ returns-2 c = let h = sym (c .before .in-range .ensures) ∙ c .if1 .left in (si
 pub sin-cos-spec : {M : Type 1} → statement M
 sin-cos-spec =
     tie.close
-    (tie.spec
-    in-range-requires
-    reduce-requires
-    sine-part-requires
-    cosine-part-requires
-    sine-at-requires
-    cosine-at-requires
-    returns
-    returns-2)
+    (tie.spec (λ c κs. search needs) reduce-requires (λ c κs. search needs) (λ c κs. search needs)
+    (λ c κs. search needs) (λ c κs. search needs) returns returns-2)

@@ -27,9 +27,6 @@ made c =
     (λ w. ap (toZ w64) (w .1) ∙ read-back (a .args .k) (a .pre) ∙ ap (λ (s : Bool). signed s (a .args .k)) (sym (w .0 .left)))
     (c .before .if1 .came)
 
-cast-m : tie.Need-cast-m
-cast-m c = search needs
-
 sub-n : tie.Need-sub-n
 sub-n c = subst (SFits w64) (sym (minus (c .before .args .k) (c .before .pre))) (signed-fits true _ (c .before .pre))
 
@@ -41,4 +38,4 @@ unfolding turnsFloat
 returns c = ap (ofInt binary32) (made c)
 
 pub turns-float-spec : {M : Type 1} → statement M
-turns-float-spec = tie.close (tie.spec cast-m sub-n int-to-float-result returns)
+turns-float-spec = tie.close (tie.spec (λ c. search needs) sub-n int-to-float-result returns)

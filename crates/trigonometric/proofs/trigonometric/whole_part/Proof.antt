@@ -26,14 +26,8 @@ pattern c = bits-absolute (toBits binary32 (c .args .t)) ∙ ap absolute (ofBits
 float-to-bits-b : tie.Need-float-to-bits-b
 float-to-bits-b c = mag-number (c .args .t) (c .pre)
 
-add-result : tie.Need-add-result
-add-result c = search needs
-
 sub-result : tie.Need-sub-result
 sub-result c = let t = c .before .args .t in field-below (absolute t) (toBits binary32 t % 2147483648) (omega arith) (pattern (c .before)) (absolute-mag t (2 ^ 21) (c .before .pre))
-
-shr-result : tie.Need-shr-result
-shr-result c = search needs
 
 returns : tie.Need-returns
 returns c = let t = c .before .args .t in (whole-none (absolute t) (toBits binary32 t % 2147483648) (omega arith) (pattern (c .before)) (absolute-mag t (2 ^ 21) (c .before .pre)) (c .if1 .taken) ∙ absolute-whole t, lit≤ tt)
@@ -43,4 +37,5 @@ returns-2 c = let t = c .before .args .t in let e = whole-digits (absolute t) (t
 
 pub whole-part-spec : {M : Type 1} → statement M
 whole-part-spec =
-    tie.close (tie.spec float-to-bits-b add-result sub-result shr-result returns returns-2)
+    tie.close
+    (tie.spec float-to-bits-b (λ c. search needs) sub-result (λ c. search needs) returns returns-2)
