@@ -127,7 +127,11 @@ fn length_line(out: &mut impl Write, number: f32, wave: f32) -> io::Result<()> {
     let (fac, el1) = leg(number, wave);
     let (hwave, h1) = height(number, wave);
     let (a, x) = monopole(number, wave);
-    write_line(out, 'l', &[number, wave, fac, el1, hwave, h1, a, x].map(bits))
+    write_line(
+        out,
+        'l',
+        &[number, wave, fac, el1, hwave, h1, a, x].map(bits),
+    )
 }
 
 /// `iongain2`'s `fac` and `el1`.

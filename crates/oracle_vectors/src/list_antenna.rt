@@ -6,9 +6,11 @@ use crate::line::is;
 use crate::line::word;
 use antenna::Lookup;
 use inverted_cone::ConeGain;
+use table::COLUMNS;
+use table::TABLE_LENGTH;
 
 // One more than a table has, for the lines with a wrong length.
-const CELLS: usize = 2761;
+const CELLS: usize = TABLE_LENGTH + 1;
 
 // The halves of n modulo 2 ^ 32 changed over, times a prime, modulo 2 ^ 32.
 fn mixed(n: u64) -> u64
@@ -46,7 +48,7 @@ fn cell(seed: u32, k: usize) -> f32
 fn example_table() -> [f32; CELLS] {
     let mut table = [0.0f32; CELLS];
     table[0] = -30.0;
-    table[91] = -20.0;
+    table[COLUMNS] = -20.0;
     table
 }
 
