@@ -1,11 +1,13 @@
-// The fields of a line. All lists' lines are read into one array, so a field needs no test of the
-// line's length.
+// The fields of a line. Every list's lines are read into an array of the same length, so a field
+// needs no test of the line's length.
 ghost use Prim.Native.Nat.{_+_, _≤_};
 use parameters::Fixes;
 use parameters::Model;
 
-// A line of `deck`, the longest.
-pub(crate) type Line = [u8; 830];
+// Of a line of `deck`, the longest.
+pub(crate) const MOST_BYTES: usize = 830;
+
+pub(crate) type Line = [u8; MOST_BYTES];
 
 // Two decimal digits.
 pub(crate) fn pair(line: &Line, start: usize) -> u32

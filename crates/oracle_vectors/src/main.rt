@@ -14,6 +14,7 @@ ghost use mathlib.Core.Path.{_≡_};
 ghost use lib.ListN.{length};
 use libc::STDOUT_FILENO;
 use line::Line;
+use line::MOST_BYTES;
 use list_deck::Carried;
 use list_deck::Compared;
 use table::TABLE_LENGTH;
@@ -30,8 +31,8 @@ enum List {
     Deck,
 }
 
-// Of a list other than `deck`.
-fn alone(equal: bool, carried: Carried) -> Compared {
+// What a line of `deck` carries, a line of any other list leaves as it was.
+fn keeping(carried: Carried, equal: bool) -> Compared {
     Compared { equal, carried }
 }
 
@@ -39,12 +40,12 @@ fn compare(list: List, line: &Line, before: Carried, table: &mut [f32]) -> Compa
     requires { ⌜ length (now table) ≡ 2760 ⌝ }
 {
     match list {
-        List::Elementary => alone(list_elementary::is_equal(line), before),
-        List::Integrals => alone(list_integrals::is_equal(line), before),
-        List::Parameters => alone(list_parameters::is_equal(line), before),
-        List::Output => alone(list_output::is_equal(line), before),
-        List::Gains => alone(list_gains::is_equal(line), before),
-        List::Antenna => alone(list_antenna::is_equal(line), before),
+        List::Elementary => keeping(before, list_elementary::is_equal(line)),
+        List::Integrals => keeping(before, list_integrals::is_equal(line)),
+        List::Parameters => keeping(before, list_parameters::is_equal(line)),
+        List::Output => keeping(before, list_output::is_equal(line)),
+        List::Gains => keeping(before, list_gains::is_equal(line)),
+        List::Antenna => keeping(before, list_antenna::is_equal(line)),
         List::Deck => list_deck::compare(line, before, table),
     }
 }
@@ -60,7 +61,7 @@ fn replay(list: List, bytes: usize, fd: i32) -> Tally
         differ: 0,
     };
     while tally.compared < MOST_LINES {
-        let mut line = [0u8; 830];
+        let mut line = [0u8; MOST_BYTES];
         let n = io::read_full(fd, &mut line[..bytes]);
         if n == 0 {
             break;
