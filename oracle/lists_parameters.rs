@@ -15,6 +15,9 @@ use std::io::{self, Write};
 
 const SEED: u64 = 0x1983_0115;
 
+/// Of a line: a type, 20 slots and the nine numbers of `ioninit`'s answer.
+const NUMBERS: usize = 30;
+
 /// Random cards for each type; random numbers of each sign at each wave.
 const RANDOM_CARDS: usize = 12;
 const RANDOM_LENGTHS: usize = 5;
@@ -33,9 +36,18 @@ pub fn write(out: &mut impl Write) -> io::Result<()> {
     }
     for (number, model) in models().into_iter().enumerate() {
         let threshold = near_vertical(model);
-        writeln!(out, "t {number:08x} {:08x}", bits(threshold))?;
+        write_line(out, 't', &[number as u32, bits(threshold)])?;
     }
     out.flush()
+}
+
+/// The numbers, with zeros after them.
+fn write_line(out: &mut impl Write, kind: char, numbers: &[u32]) -> io::Result<()> {
+    write!(out, "{kind}")?;
+    for k in 0..NUMBERS {
+        write!(out, " {:08x}", numbers.get(k).unwrap_or(&0))?;
+    }
+    writeln!(out)
 }
 
 /// The ten types, and others.
@@ -86,12 +98,10 @@ fn edges() -> Vec<f32> {
 
 fn ioninit_line(out: &mut impl Write, kop: i32, parm: &[f32; 20]) -> io::Result<()> {
     let p = ioninit(kop, parm);
-    write!(out, "i {kop:08x}")?;
     let answer = [p.asig, p.aeps, p.and, p.anl, p.anh];
-    for x in parm.iter().chain(&answer).chain(&p.aex) {
-        write!(out, " {:08x}", bits(*x))?;
-    }
-    writeln!(out)
+    let mut numbers = vec![kop as u32];
+    numbers.extend(parm.iter().chain(&answer).chain(&p.aex).map(|x| bits(*x)));
+    write_line(out, 'i', &numbers)
 }
 
 /// The waves of whole and other MHz in the range of a call.
@@ -117,11 +127,11 @@ fn length_line(out: &mut impl Write, number: f32, wave: f32) -> io::Result<()> {
     let (fac, el1) = leg(number, wave);
     let (hwave, h1) = height(number, wave);
     let (a, x) = monopole(number, wave);
-    write!(out, "l")?;
-    for value in [number, wave, fac, el1, hwave, h1, a, x] {
-        write!(out, " {:08x}", bits(value))?;
-    }
-    writeln!(out)
+    write_line(
+        out,
+        'l',
+        &[number, wave, fac, el1, hwave, h1, a, x].map(bits),
+    )
 }
 
 /// `iongain2`'s `fac` and `el1`.

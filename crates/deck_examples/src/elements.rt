@@ -8,10 +8,8 @@ use crate::tables::next_difference;
 use crate::tables::one_if;
 use crate::text::print;
 use crate::text::print_number;
-
-const COLUMNS: usize = 91;
-
-const GAINS: usize = 2730;
+use table::COLUMNS;
+use table::GAINS;
 
 // How many numbers differ, and how many of them are gains straight up.
 struct Differences {

@@ -9,14 +9,16 @@ use crate::text::print_narrow;
 use deck::Deck;
 use deck::Fields;
 use parameters::Model;
+use table::COLUMNS;
+use table::GAINS;
 
 // MHz, efficiency and ground gain.
 fn print_row(row: usize, mhz: u32, table: &[f32])
     requires { ⌜ (length (now table) ≡ 2760) × (row < 30) ⌝ }
 {
     print_narrow(mhz);
-    print_hundredths(table[2730 + row]);
-    print_hundredths(table[row * 91]);
+    print_hundredths(table[GAINS + row]);
+    print_hundredths(table[row * COLUMNS]);
     print(b"\n");
 }
 

@@ -8,9 +8,11 @@ mod removal;
 mod tables;
 mod text;
 
+use table::TABLE_LENGTH;
+
 fn main() {
-    let mut a = [0.0f32; 2760];
-    let mut b = [0.0f32; 2760];
+    let mut a = [0.0f32; TABLE_LENGTH];
+    let mut b = [0.0f32; TABLE_LENGTH];
     removal::print_removals(&mut a, &mut b);
     elements::print_elements(&mut a, &mut b);
     listing::print_listings(&mut a);

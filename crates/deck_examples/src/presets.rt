@@ -8,6 +8,7 @@ use crate::text::print_hundredths;
 use crate::text::print_number;
 use deck::Deck;
 use deck::Ran;
+use table::TABLE_LENGTH;
 
 const MAX: u32 = 4_294_967_295;
 
@@ -91,17 +92,17 @@ fn preset_length(k: usize) -> usize
     ensures { λ r. ⌜ r ≤ 2761 ⌝ }
 {
     if k < 12 {
-        return 2760;
+        return TABLE_LENGTH;
     }
     match k {
         12 => 0,
-        13 => 2759,
-        _ => 2761,
+        13 => TABLE_LENGTH - 1,
+        _ => TABLE_LENGTH + 1,
     }
 }
 
 fn print_preset(k: usize) {
-    let mut table = [0.0f32; 2761];
+    let mut table = [0.0f32; TABLE_LENGTH + 1];
     let n = preset_length(k);
     print_both(preset_deck(k), &mut table[..n]);
 }

@@ -10,10 +10,8 @@ use crate::text::print;
 use crate::text::print_hundredths;
 use crate::text::print_number;
 use deck::Deck;
-
-const COLUMNS: usize = 91;
-
-const GAINS: usize = 2730;
+use table::COLUMNS;
+use table::GAINS;
 
 // Where a number stands in its table.
 fn print_place(k: usize) {

@@ -6,11 +6,6 @@ ghost use lib.ListN.{length};
 // What a table holds before a card.
 pub(crate) const BEFORE: f32 = 1.0;
 
-// Any NaN equals any NaN.
-pub(crate) fn same(x: f32, y: f32) -> bool {
-    vectors::bits(x) == vectors::bits(y)
-}
-
 // The first place from `start` on where the tables differ, or their length.
 pub(crate) fn next_difference(a: &[f32], b: &[f32], start: usize) -> usize
     requires { ⌜ (length (now a) ≡ length (now b)) × (start ≤ length (now a)) ⌝ }
@@ -18,7 +13,7 @@ pub(crate) fn next_difference(a: &[f32], b: &[f32], start: usize) -> usize
 {
     let mut k = start;
     while k < a.len() {
-        if !same(a[k], b[k]) {
+        if !vectors::same(a[k], b[k]) {
             return k;
         }
         k += 1;
@@ -37,7 +32,7 @@ pub(crate) fn count(table: &[f32], x: f32) -> u64 {
     let mut n: u64 = 0;
     let mut k: usize = 0;
     while k < table.len() {
-        n += one_if(same(table[k], x));
+        n += one_if(vectors::same(table[k], x));
         k += 1;
     }
     n

@@ -2,9 +2,10 @@
 mod tally;
 
 ghost use mathlib.Core.Path.{_≡_};
-ghost use Rattle.vectors.specs.Line.{digitOf, hexOf, signedOf};
+ghost use Rattle.vectors.specs.Line.{digitOf, hexOf, signedOf, sameBits};
 pub use encoding::bits;
 pub use encoding::float;
+pub use tally::MOST_LINES;
 pub use tally::Tally;
 pub use tally::counted;
 
@@ -47,4 +48,11 @@ pub fn signed(bits: u32) -> i32
     } else {
         !((0xffff_ffff - bits) as i32)
     }
+}
+
+// Any NaN is the same as any NaN.
+pub fn same(x: f32, y: f32) -> bool
+    ensures { λ r. ⌜ r ≡ sameBits x y ⌝ }
+{
+    bits(x) == bits(y)
 }

@@ -3,7 +3,7 @@ ghost use mathlib.Core.Path.{_≡_};
 ghost use Rattle.vectors.specs.Counting.{oneMore, countedOf};
 
 // A program stops here.
-const MOST_LINES: u64 = 1000000;
+pub const MOST_LINES: u64 = 1000000;
 
 pub struct Tally {
     pub compared: u64,
