@@ -165,7 +165,7 @@ fn whole_ranges() -> Vec<Entry> {
 fn types_and_monopoles() -> Vec<Entry> {
     let mut list = Vec::new();
     for kop in 1..=10 {
-        list.push(card(5, kop, kop + 1, 0.0, &[10.0]));
+        list.push(card(2, kop, kop + 1, 0.0, &[10.0]));
         list.push(of_type(kop, 2 * kop + 3, 2 * kop + 5));
         list.push(card(2, 31 - kop, 31 - kop, 0.0, &[-0.03 * kop as f32, 1.0]));
     }
@@ -259,7 +259,8 @@ fn curtains() -> Vec<Entry> {
     list
 }
 
-/// Numbers that upstream answers oddly to, each next to a monopole.
+/// Numbers that upstream answers oddly to, each before a card whose ground line
+/// takes the height left (type 5: its slot 6 is a gain).
 fn edges() -> Vec<Entry> {
     let no_resistance = f32::from_bits(0xbd62_991a);
     let bays = &[4.0, -0.5, 10.0, 4.0, -0.5, -0.5, -0.25];
@@ -279,17 +280,18 @@ fn edges() -> Vec<Entry> {
         card(8, 1, 1, 30.0, &[15.0, 0.0003]),
         // No height, and around 0.35 wavelengths.
         card(2, 9, 10, 0.0, &[0.0, -40.0]),
-        card(5, 9, 10, 0.0, &[-0.35]),
-        card(5, 9, 10, 0.0, &[-0.35f32.next_down()]),
+        card(2, 9, 10, 0.0, &[-0.35]),
+        card(2, 9, 10, 0.0, &[-0.35f32.next_down()]),
+        card(2, 9, 10, 0.0, &[-0.35f32.next_up()]),
         // Negative elements, and gains that are NaN: at 2 degrees and anywhere.
         card(6, 9, 10, 30.0, &[4.0, -0.5, 10.0, -2.0, -0.5, -0.5, -0.25]),
         ground(card(6, 10, 10, 10.0, bays), 820.0051, 0.0001),
         ground(card(6, 10, 10, 10.0, bays), 0.0, 1.0e-23),
     ];
-    let monopole = card(5, 12, 12, 0.0, &[2.0]);
+    let log_periodic = card(5, 12, 12, 0.0, &[2.0]);
     cards
         .into_iter()
-        .flat_map(|edge| [edge, monopole])
+        .flat_map(|edge| [edge, log_periodic])
         .collect()
 }
 
