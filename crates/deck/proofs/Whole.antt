@@ -22,7 +22,7 @@ use Rattle.independence.proofs.Consequences as Q
 use Rattle.deck.specs.declared.fields.Fields.{Fields}
 use Rattle.deck.specs.Fields.{paramsFor}
 use Rattle.deck.specs.Columns.{elevationAt, columnAt}
-use Rattle.deck.specs.Card.{cardOf, callOf, answerOf}
+use Rattle.deck.specs.Card.{cardOf, antennaFor, callOf, answerOf}
 use Rattle.deck.specs.Antenna.{theAntenna}
 use Rattle.deck.specs.Run.{countLimit}
 use Rattle.deck.proofs.Laws.{theLaws}
@@ -42,7 +42,7 @@ demand3-of-calls = C.demand3-of-calls theAntenna theLaws countLimit
 -- a card's cell is the work of the gain call on its antenna, MHz and elevation: ioncap's `callWork`
 pub cell-is-gain-call : (f : Fields) (m d : ℕ) (h : Float)
     → theAntenna .call f m d h ≡ answerOf (workOf (antennaOf (f .kop) (f .toaz) (paramsFor f) (f .model)) (whole m) (elevationAt d) (elevationOf (cosine (elevationAt d)) (sine (elevationAt d))) h)
-unfolding callOf cardOf columnAt
+unfolding callOf cardOf antennaFor antennaOf columnAt
 cell-is-gain-call f m d h = refl
 
 -- at most one cell of one entry may differ
