@@ -22,7 +22,7 @@ use Rattle.gain_core.specs.Core.{aboveGround, workOf, workNumber}
 use Rattle.gain_core.specs.declared.core.Worked.{Worked}
 use Rattle.gain_core.specs.declared.core.Worked.the-variants as W
 use Rattle.gain_core.proofs.Laws.{OfCall, AboveFloor, left-above, ground-value, up-ground-same, number-same, floor-above}
-use Rattle.independence.specs.Antenna.{Answer, lowered, carriesHeight, looksUp, heightLeft}
+use Rattle.independence.specs.Antenna.{Answer, floorPlus, carriesHeight, looksUp, heightLeft}
 use Rattle.independence.specs.Laws.{Fills, Laws}
 use Rattle.deck.proofs.Degrees.{mhz-in-range}
 use Rattle.deck.specs.declared.fields.Fields.{Fields}
@@ -109,8 +109,8 @@ module _ (f : Fields) (m : ℕ) (p : fieldsRefusal f ≡ 0) where
   ground-is h n =
       call-ground (cardOf f) m h ∙ ap answerOf (ground-value (antennaFor (cardOf f)) (whole m) (columnAt 0) h (looks f p ∙ is-false _ n))
 
-  ground-gain : (h : Float) → T (not (looksUp (natAbs (f .kop)))) → callOf (cardOf f) m 0 h .gain ≡ lowered (efficiencyOf (pos (natAbs (f .kop))) h (num 0 1))
-  unfolding lowered
+  ground-gain : (h : Float) → T (not (looksUp (natAbs (f .kop)))) → callOf (cardOf f) m 0 h .gain ≡ floorPlus (efficiencyOf (pos (natAbs (f .kop))) h (num 0 1))
+  unfolding floorPlus
   ground-gain h n = ap (λ (a : Answer). a .gain) (ground-is h n) ∙ ap (λ (k : ℤ). floor ⊞ efficiencyOf k h (num 0 1)) (is-type f p)
 
 -- ---- outside types 2, 3 and 4
@@ -165,5 +165,5 @@ theLaws =
     eight h = unfold efficiencyOf isType in refl
 
     floored : (f : Fields) (m d : ℕ) (h : Float) → Fills theAntenna f m → d < 91 → T (not (eqb (natAbs (f .kop)) 2 || looksUp (natAbs (f .kop)))) → callOf (cardOf f) m d h .refusal ≡ 0
-        → (callOf (cardOf f) m d h .gain ≡ nan) ⊎ (T (lt floor (callOf (cardOf f) m d h .gain)) ⊎ (callOf (cardOf f) m d h .gain ≡ lowered (callOf (cardOf f) m d h .efficiency)))
-    floored f m d h F l t e = unfold lowered in floor-holds f m d h (F .passes) l t e
+        → (callOf (cardOf f) m d h .gain ≡ nan) ⊎ (T (lt floor (callOf (cardOf f) m d h .gain)) ⊎ (callOf (cardOf f) m d h .gain ≡ floorPlus (callOf (cardOf f) m d h .efficiency)))
+    floored f m d h F l t e = unfold floorPlus in floor-holds f m d h (F .passes) l t e

@@ -3,9 +3,9 @@
 ghost use mathlib.Core.Path.{_≡_};
 ghost use Prim.Native.Nat.{_+_, _*_, _<_, _≤_};
 ghost use lib.ListN.{length};
+use deck::CardAnswer;
 use deck::Deck;
 use deck::Fields;
-use deck::Ran;
 use libc::STDIN_FILENO;
 use libc::STDOUT_FILENO;
 use parameters::Fixes;
@@ -99,7 +99,7 @@ fn table_length(line: &[u8]) -> usize
 }
 
 // Runs the line's entry.
-fn run_entry(line: &[u8], deck: Deck, table: &mut [f32]) -> Ran
+fn run_entry(line: &[u8], deck: Deck, table: &mut [f32]) -> CardAnswer
     requires { ⌜ 830 ≤ length (now line) ⌝ }
 {
     if line[0] == b'm' {
@@ -120,7 +120,7 @@ fn same(x: f32, y: f32) -> bool {
 }
 
 // Verdict, height and counts.
-fn compare_answer(line: &[u8], answer: Ran) -> Compared
+fn compare_answer(line: &[u8], answer: CardAnswer) -> Compared
     requires { ⌜ 830 ≤ length (now line) ⌝ }
     ensures { λ r. ⌜ (r .numbers ≤ 4) × (r .differ ≤ 4) ⌝ }
 {

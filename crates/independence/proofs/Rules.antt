@@ -10,7 +10,7 @@ use lib.Ieee.{Float, nan, lt, neg, round}
 use Rattle.single.specs.Single.{num}
 use Rattle.finish.specs.Finish.{floor}
 use Rattle.table.specs.Table.{gainAt, cleared}
-use Rattle.independence.specs.Antenna.{Antenna, lowered, looksUp}
+use Rattle.independence.specs.Antenna.{Antenna, floorPlus, looksUp}
 use Rattle.independence.specs.Laws.{Fills, Laws}
 use Rattle.independence.specs.Filling.{callAt, heightAt, rowsOf, cardTable}
 use Rattle.independence.specs.Deck.{Deck, card, Entry, Outcome, verdictOn, tableBy, outcomeOn, deckAfter, run}
@@ -52,7 +52,7 @@ module _ (A : Antenna) (L : Laws A) (limit : ℕ) where
       (filled-row c h i d p (omega arith) k)
 
   ground-rule : (c : A .Card) (h : Float) → Passes A c h → T (not (looksUp (A .typeOf c))) → (m : ℕ) → A .first c ≤ m → m ≤ A .last c
-      → cell (cardTable A c h) (gainAt m 0) ≡ lowered (A .efficiencyOf (A .typeOf c) (carriedAtRow A c h m))
+      → cell (cardTable A c h) (gainAt m 0) ≡ floorPlus (A .efficiencyOf (A .typeOf c) (carriedAtRow A c h m))
   unfolding heightAt
   ground-rule c h p type m lo hi =
       let g = filled-cell c h m 0 p lo hi (omega arith) in
@@ -62,7 +62,7 @@ module _ (A : Antenna) (L : Laws A) (limit : ℕ) where
   abbrev Floored : A .Card → Float → ℕ → ℕ → Type 0
   Floored c h m d =
       T (lt floor (cell (cardTable A c h) (gainAt m d)))
-      ⊎ ((A .first c ≤ m) × (m ≤ A .last c) × (cell (cardTable A c h) (gainAt m d) ≡ lowered (callAt A c m (carriedAtRow A c h m) d .efficiency)))
+      ⊎ ((A .first c ≤ m) × (m ≤ A .last c) × (cell (cardTable A c h) (gainAt m d) ≡ floorPlus (callAt A c m (carriedAtRow A c h m) d .efficiency)))
 
   unfilled : (c : A .Card) (h : Float) (m d : ℕ) → Passes A c h → 1 ≤ m → m ≤ 30 → d < 91 → (m < A .first c) ⊎ (A .first c + rowsOf A c ≤ m) → Floored c h m d
   unfilled c h m d p l top k o =
@@ -97,7 +97,7 @@ module _ (A : Antenna) (L : Laws A) (limit : ℕ) where
   table-rules c h p =
       record {
         ground = ground-rule c h p;
-        groundOf8 = λ e m lo hi. let t = type8 (A .typeOf c) (carriedAtRow A c h m) e in ground-rule c h p (t .0) m lo hi ∙ ap lowered (t .1);
+        groundOf8 = λ e m lo hi. let t = type8 (A .typeOf c) (carriedAtRow A c h m) e in ground-rule c h p (t .0) m lo hi ∙ ap floorPlus (t .1);
         everyGain = floor-rule c h p;
       }
 

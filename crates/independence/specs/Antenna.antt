@@ -29,8 +29,8 @@ pub record Antenna : Type 1 where
   pub wavelengths : Card → ℕ → Float
 
 -- -30 plus an efficiency, in single precision
-unfoldable pub lowered : Float → Float
-lowered efficiency = floor ⊞ efficiency
+unfoldable pub floorPlus : Float → Float
+floorPlus efficiency = floor ⊞ efficiency
 
 -- types 2 and 5 carry their height; types 3 and 4 call a second time, straight up
 abbrev pub carriesHeight : ℕ → Bool
