@@ -14,7 +14,7 @@ use Rattle.deck.specs.declared.card.Card.{Card}
 use Rattle.deck.specs.Fields.{paramsFor}
 use Rattle.deck.specs.Columns.{elevationAt, columnAt}
 
--- "once `ioninit` has read the slots" the leg and the height are read by kind
+-- the leg and the height by the term "kind", metres or wavelengths, once `ioninit` has read the slots
 unfoldable pub cardOf : Fields → Card
 cardOf f =
     record {

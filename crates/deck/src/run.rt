@@ -13,13 +13,13 @@ use deck_state::state_refusal;
 // The refusal of a malformed line.
 const MALFORMED: u32 = 8;
 
-// `verdict` is the refusal number, 0 if accepted.
+// What a card's run answers. `verdict` is the refusal number, 0 if accepted.
 pub struct CardAnswer {
     pub deck: Deck,
     pub verdict: u32,
 }
 
-// All refusals that come before the work.
+// All but 11, which arises in the work.
 fn refusal_before_work(deck: Deck, fields: Fields, table: &[f32]) -> u32
     ensures { λ r. ⌜ r ≡ refusalBeforeWork theAntenna countLimit (stateOf deck) fields (now (table .entry)) ⌝ }
 {

@@ -50,7 +50,7 @@ unfolding isTable
 is-table t t′ l e = ap (λ (n : ℕ). eqb n 2760) l ∙ e
 
 module _ (A : Antenna) (L : Laws A) (limit : ℕ) where
-  -- ---- what an accepting refusal_before_work tells
+  -- ---- what is known where no refusal comes before the work
   pub record NoneBeforeWork (d : Deck) (c : A .Card) (t : List Float) : Type 0 where
     pub room : d .accepted + d .refused < limit
     pub table : isTable t ≡ true
@@ -81,7 +81,7 @@ module _ (A : Antenna) (L : Laws A) (limit : ℕ) where
   unfolding malformedRefusal firstRefusal
   room-malformed d t v p n = room-by (leb limit (d .accepted + d .refused)) d v _ refl p n
 
-  -- ---- the verdict is the refusal_before_work's, or else the filling's
+  -- ---- the verdict is the refusal before the work, or else the filling's
   -- the tests 10, 9, 7 and the input's, then the filling's refusal w
   first-of-both : (a b f : Bool) (n w : ℕ)
       → (cond a 10 (cond b 9 (cond f 7 (cond (not (eqb n 0)) n 0))) ≢ 0 → cond a 10 (cond b 9 (cond f 7 (cond (not (eqb n 0)) n (cond (not (eqb w 0)) w 0)))) ≡ cond a 10 (cond b 9 (cond f 7 (cond (not (eqb n 0)) n 0))))

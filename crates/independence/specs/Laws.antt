@@ -11,7 +11,7 @@ use Rattle.finish.specs.Finish.{floor}
 use Rattle.table.specs.Table.{rowCount, columnCount}
 use Rattle.independence.specs.Antenna.{Antenna, floorPlus, carriesHeight, looksUp, heightLeft}
 
--- m MHz is a row of a card that passes the tests of its input
+-- the term "filled rows": first to last MHz of a card, here of one that passes the tests of its input
 pub record Fills (A : Antenna) (c : A .Card) (m : ℕ) : Type 0 where
   pub passes : A .inputRefusal c ≡ 0
   pub low : A .first c ≤ m
