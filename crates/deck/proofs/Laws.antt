@@ -30,7 +30,7 @@ use Rattle.deck.specs.Fields.{fieldsRefusal}
 use Rattle.deck.specs.Columns.{elevationAt, columnAt}
 use Rattle.deck.specs.Card.{cardOf, antennaFor, answerOf, callOf}
 use Rattle.deck.specs.Antenna.{theAntenna}
-use Rattle.deck.proofs.Passes.{is-type, in-range, fields-number, leg-within}
+use Rattle.deck.proofs.Passes.{is-type, in-range, fields-number, params-within}
 use Rattle.deck.proofs.Cells.{call-above, call-ground}
 
 -- ---- answers of a worked call
@@ -68,7 +68,7 @@ pub left-is : (f : Fields) (m : ℕ) → fieldsRefusal f ≡ 0 → heightFor (f 
 unfolding heightFor heightLeft
 left-is f m p = rw (carries f p) refl
 
-mhz-range : (m : ℕ) → 1 ≤ m → m ≤ 30 → T (le (num 1 1) (whole m)) × T (le (whole m) (num 30 1))
+pub mhz-range : (m : ℕ) → 1 ≤ m → m ≤ 30 → T (le (num 1 1) (whole m)) × T (le (whole m) (num 30 1))
 mhz-range zero l h = absurd (not-suc-le-zero l)
 mhz-range (suc m) l h = mhz-in-range m h
 
@@ -77,7 +77,7 @@ unfolding cardOf antennaFor
 left-finite f m F =
     let r = in-range f (F .passes) in
     let mhz = mhz-range m (omega (arith, r .low, F .low)) (omega (arith, r .high, F .high)) in
-    subst (λ (x : Float). T (finite x)) (left-is f m (F .passes)) (height-finite (f .kop) _ (whole m) (leg-within f (F .passes)) (mhz .0) (mhz .1))
+    subst (λ (x : Float). T (finite x)) (left-is f m (F .passes)) (height-finite (f .kop) _ (whole m) (params-within f (F .passes) .anl) (mhz .0) (mhz .1))
 
 -- ---- on the ground
 module _ (f : Fields) (m : ℕ) (p : fieldsRefusal f ≡ 0) where

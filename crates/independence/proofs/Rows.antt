@@ -27,7 +27,7 @@ other-row m m′ d e l l′ h k k′ = omega arith
 no-efficiency : (m m′ d : ℕ) → m ≤ 30 → d < 91 → gainAt m d ≢ efficiencyAt m′
 no-efficiency m m′ d h k = omega arith
 
-below-suc : (d n : ℕ) → d < suc n → (d ≡ n) ⊎ (d < n)
+pub below-suc : (d n : ℕ) → d < suc n → (d ≡ n) ⊎ (d < n)
 below-suc d n h = elim (eq-or-lt-of-le (le-of-suc-le-suc h)) [ inl e ↦ inl e | inr l ↦ inr l ]
 
 pub cleared-length : length cleared ≡ 2760
