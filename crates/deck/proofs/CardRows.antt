@@ -2,7 +2,7 @@
 use mathlib.Core.Path.{_≡_, sym, ap, subst, _∙_}
 use mathlib.Core.List.{List}
 use mathlib.Core.Logic.{_≢_}
-use Prim.Native.Nat.{ℕ, _+_, _-_, _<_, _≤_}
+use Prim.Native.Nat.{ℕ, suc, _+_, _-_, _<_, _≤_}
 use native.Mathlib.Omega.{arith}
 use lib.Dec.{T}
 use lib.IntN.{ℤ, pos, natAbs}
@@ -11,12 +11,13 @@ use lib.Ieee.{Float}
 use mir.Syntax.{w32, w64}
 use mir.Val.{Fits, ofZ, toZ}
 use mir.ValLaws.{toZ-ofZ}
+use Rattle.patterns.specs.declared.antenna.Antenna.{Antenna}
 use Rattle.independence.specs.Contracts.{RowDone, CardDone}
 use Rattle.independence.proofs.Loops.{CardInv, card-step, card-stops, card-ends}
 use Rattle.deck.specs.declared.card.Card.{Card}
 use Rattle.deck.specs.declared.fields.Fields.{Fields}
 use Rattle.deck.specs.Fields.{fieldsRefusal}
-use Rattle.deck.specs.Card.{cardOf}
+use Rattle.deck.specs.Card.{cardOf, antennaFor}
 use Rattle.deck.specs.Row.{RowOfFields}
 use Rattle.deck.specs.Antenna.{theAntenna}
 use Rattle.deck.proofs.Passes.{in-range}
@@ -67,27 +68,32 @@ rows-of c f e p =
       lastFits = fits-at _ (f .last) last (r .lastWhole) (r .high);
     }
 
--- ---- the loop
-module _ (c : Card) (f : Fields) (e : c ≡ cardOf f) (p : fieldsRefusal f ≡ 0) (h : Float) (t₀ : List Float) where
-  row-done : (x y : Float) (t t′ : List Float) (n r : ℕ) → n < lastOf c - firstOf c + 1 → RowOfFields c (firstOf c + n) x t t′ r y → RowDone theAntenna f (natAbs (f .first) + n) x t t′ r y
+-- ---- the loop: a card's antenna, its first MHz and its number of rows, as they are read from the fields f
+pub record RowsOf (a : Antenna) (start number : ℕ) (f : Fields) : Type 0 where
+  pub antenna : a ≡ antennaFor (cardOf f)
+  pub passes : fieldsRefusal f ≡ 0
+  pub first : start ≡ natAbs (f .first)
+  pub count : number ≡ suc (natAbs (f .last)) - natAbs (f .first)
+
+pub rows-read : (c : Card) (a : Antenna) (f : Fields) → c ≡ cardOf f → a ≡ antennaFor c → fieldsRefusal f ≡ 0 → RowsOf a (firstOf c) (lastOf c - firstOf c + 1) f
+rows-read c a f e ea p =
+    let at = rows-of c f e p in
+    record { antenna = ea ∙ ap antennaFor e; passes = p; first = at .first; count = omega (arith, at .first, at .last, at .order) }
+
+module _ (a : Antenna) (first count : ℕ) (f : Fields) (of : RowsOf a first count f) (h : Float) (t₀ : List Float) where
+  row-done : (x y : Float) (t t′ : List Float) (n r : ℕ) → n < count → RowOfFields a (first + n) x t t′ r y → RowDone theAntenna f (natAbs (f .first) + n) x t t′ r y
   row-done x y t t′ n r l row =
-      let at = rows-of c f e p in
-      subst (λ (k : ℕ). RowDone theAntenna f (k + n) x t t′ r y) (at .first)
-      (row f e (record { passes = p; low = omega (arith, at .first); high = omega (arith, at .last, at .order) }))
+      let at = in-range f (of .passes) in
+      subst (λ (k : ℕ). RowDone theAntenna f (k + n) x t t′ r y) (of .first)
+      (row f (of .antenna) (record { passes = of .passes; low = omega (arith, of .first); high = omega (arith, of .first, of .count, at .order) }))
 
-  pub rows-step : (x y : Float) (t t′ : List Float) (n r : ℕ) → CardInv theAntenna f h t₀ t x n → n < lastOf c - firstOf c + 1 → RowOfFields c (firstOf c + n) x t t′ r y → r ≡ 0
+  pub rows-step : (x y : Float) (t t′ : List Float) (n r : ℕ) → CardInv theAntenna f h t₀ t x n → n < count → RowOfFields a (first + n) x t t′ r y → r ≡ 0
       → CardInv theAntenna f h t₀ t′ y (n + 1)
-  rows-step x y t t′ n r i l row z =
-      let at = rows-of c f e p in
-      card-step theAntenna theLaws f h t₀ t t′ x y n r i (omega (arith, at .first, at .last, at .order)) (row-done x y t t′ n r l row) z
+  rows-step x y t t′ n r i l row z = card-step theAntenna theLaws f h t₀ t t′ x y n r i (omega (arith, of .count)) (row-done x y t t′ n r l row) z
 
-  pub rows-stop : (x y z : Float) (t t′ : List Float) (n r : ℕ) → CardInv theAntenna f h t₀ t x n → n < lastOf c - firstOf c + 1 → RowOfFields c (firstOf c + n) x t t′ r y → r ≢ 0
+  pub rows-stop : (x y z : Float) (t t′ : List Float) (n r : ℕ) → CardInv theAntenna f h t₀ t x n → n < count → RowOfFields a (first + n) x t t′ r y → r ≢ 0
       → CardDone theAntenna f h t₀ t′ r z
-  rows-stop x y z t t′ n r i l row bad =
-      let at = rows-of c f e p in
-      card-stops theAntenna theLaws f h t₀ t t′ x y z n r i (omega (arith, at .first, at .last, at .order)) (row-done x y t t′ n r l row) bad
+  rows-stop x y z t t′ n r i l row bad = card-stops theAntenna theLaws f h t₀ t t′ x y z n r i (omega (arith, of .count)) (row-done x y t t′ n r l row) bad
 
-  pub rows-end : (x : Float) (t : List Float) (n : ℕ) → CardInv theAntenna f h t₀ t x n → lastOf c - firstOf c + 1 ≤ n → CardDone theAntenna f h t₀ t 0 x
-  rows-end x t n i l =
-      let at = rows-of c f e p in
-      card-ends theAntenna theLaws f h t₀ t x n i (omega (arith, at .first, at .last, at .order))
+  pub rows-end : (x : Float) (t : List Float) (n : ℕ) → CardInv theAntenna f h t₀ t x n → count ≤ n → CardDone theAntenna f h t₀ t 0 x
+  rows-end x t n i l = card-ends theAntenna theLaws f h t₀ t x n i (omega (arith, of .count))

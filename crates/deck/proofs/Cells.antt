@@ -20,49 +20,49 @@ use Rattle.independence.specs.Antenna.{Answer}
 use Rattle.deck.proofs.Degrees.{elevation-not-at-ground, elevation-ground}
 use Rattle.deck.specs.declared.card.Card.{Card}
 use Rattle.deck.specs.Columns.{elevationAt, columnAt}
-use Rattle.deck.specs.Card.{answerOf, callOf}
+use Rattle.deck.specs.Card.{antennaFor, answerOf, callOf}
 use Rattle.deck.specs.Row.{groundCell, cellAt}
 
 module _ (c : Card) (m : ℕ) where
-  pub call-above : (d : ℕ) (h : Float) → d < 90 → callOf c m (suc d) h ≡ answerOf (aboveGround (c .antenna) (whole m) (elevationAt (suc d)) (columnAt (suc d)))
+  pub call-above : (d : ℕ) (h : Float) → d < 90 → callOf c m (suc d) h ≡ answerOf (aboveGround (antennaFor c) (whole m) (elevationAt (suc d)) (columnAt (suc d)))
   unfolding callOf
-  call-above d h k = ap answerOf (above (c .antenna) (whole m) (elevationAt (suc d)) (columnAt (suc d)) h (is-false (le (elevationAt (suc d)) (num 0 1)) (elevation-not-at-ground d k)))
+  call-above d h k = ap answerOf (above (antennaFor c) (whole m) (elevationAt (suc d)) (columnAt (suc d)) h (is-false (le (elevationAt (suc d)) (num 0 1)) (elevation-not-at-ground d k)))
 
-  pub call-ground : (h : Float) → callOf c m 0 h ≡ answerOf (atGround (c .antenna) (whole m) (columnAt 0) h)
+  pub call-ground : (h : Float) → callOf c m 0 h ≡ answerOf (atGround (antennaFor c) (whole m) (columnAt 0) h)
   unfolding callOf
-  call-ground h = ap answerOf (below (c .antenna) (whole m) (elevationAt 0) (columnAt 0) h (is-true (le (elevationAt 0) (num 0 1)) elevation-ground))
+  call-ground h = ap answerOf (below (antennaFor c) (whole m) (elevationAt 0) (columnAt 0) h (is-true (le (elevationAt 0) (num 0 1)) elevation-ground))
 
   -- ---- a row whose series do not settle refuses every cell above the ground
-  module _ (un : rowOf (c .antenna) (whole m) ≡ R.Unsettled) where
+  module _ (un : rowOf (antennaFor c) (whole m) ≡ R.Unsettled) where
     pub above-unsettled : (d : ℕ) (h : Float) → d < 90 → callOf c m (suc d) h .refusal ≡ 11
     unfolding aboveGround
     above-unsettled d h k =
-        ap (λ (a : Answer). a .refusal) (call-above d h k) ∙ ap (λ (r : RowAnswer). answerOf (aboveFrom (c .antenna) (elevationAt (suc d)) (columnAt (suc d)) r) .refusal) un
+        ap (λ (a : Answer). a .refusal) (call-above d h k) ∙ ap (λ (r : RowAnswer). answerOf (aboveFrom (antennaFor c) (elevationAt (suc d)) (columnAt (suc d)) r) .refusal) un
 
     pub ground-unsettled : (h : Float) → (callOf c m 0 h .refusal ≡ 0) ⊎ (callOf c m 0 h .refusal ≡ 11)
-    ground-unsettled h = rw (call-ground h) (by (looksUp (c .antenna .kop)) refl)
+    ground-unsettled h = rw (call-ground h) (by (looksUp (antennaFor c .kop)) refl)
       where
-        by : (b : Bool) → looksUp (c .antenna .kop) ≡ b → (answerOf (atGround (c .antenna) (whole m) (columnAt 0) h) .refusal ≡ 0) ⊎ (answerOf (atGround (c .antenna) (whole m) (columnAt 0) h) .refusal ≡ 11)
+        by : (b : Bool) → looksUp (antennaFor c .kop) ≡ b → (answerOf (atGround (antennaFor c) (whole m) (columnAt 0) h) .refusal ≡ 0) ⊎ (answerOf (atGround (antennaFor c) (whole m) (columnAt 0) h) .refusal ≡ 11)
         by true e = unfold atGround in rw (e, un) (inr refl)
         by false e = unfold atGround in rw e (inl refl)
 
   -- ---- a row that settles
-  module _ (row : Row) (turns : Turns) (is : rowOf (c .antenna) (whole m) ≡ R.Settled row turns) where
+  module _ (row : Row) (turns : Turns) (is : rowOf (antennaFor c) (whole m) ≡ R.Settled row turns) where
     pub above-settled : (d : ℕ) (h : Float) → d < 90
-        → callOf c m (suc d) h ≡ record { refusal = 0; gain = cellAt row (upFor row) (c .antenna .azimuth) (suc d); efficiency = row .eff; height = row .x }
+        → callOf c m (suc d) h ≡ record { refusal = 0; gain = cellAt row (upFor row) (antennaFor c .azimuth) (suc d); efficiency = row .eff; height = row .x }
     unfolding aboveGround
-    above-settled d h k = call-above d h k ∙ ap (λ (r : RowAnswer). answerOf (aboveFrom (c .antenna) (elevationAt (suc d)) (columnAt (suc d)) r)) is
+    above-settled d h k = call-above d h k ∙ ap (λ (r : RowAnswer). answerOf (aboveFrom (antennaFor c) (elevationAt (suc d)) (columnAt (suc d)) r)) is
 
-    own : (row .kop ≡ c .antenna .kop) × (row .x ≡ heightFor (c .antenna .kop) (c .antenna .leg) (waveOf (whole m)))
-    own = rw is at (row-own (c .antenna) (whole m))
+    own : (row .kop ≡ antennaFor c .kop) × (row .x ≡ heightFor (antennaFor c .kop) (antennaFor c .leg) (waveOf (whole m)))
+    own = rw is at (row-own (antennaFor c) (whole m))
 
-    pub row-height : row .x ≡ heightFor (c .antenna .kop) (c .antenna .leg) (waveOf (whole m))
+    pub row-height : row .x ≡ heightFor (antennaFor c .kop) (antennaFor c .leg) (waveOf (whole m))
     row-height = own .1
 
-    pub ground-settled : (h : Float) → (callOf c m 0 h .refusal ≡ 0) × (callOf c m 0 h .gain ≡ groundCell (c .antenna .kop) (upFor row) (columnAt 0) h)
-    ground-settled h = rw (call-ground h) (by (looksUp (c .antenna .kop)) refl)
+    pub ground-settled : (h : Float) → (callOf c m 0 h .refusal ≡ 0) × (callOf c m 0 h .gain ≡ groundCell (antennaFor c .kop) (upFor row) (columnAt 0) h)
+    ground-settled h = rw (call-ground h) (by (looksUp (antennaFor c .kop)) refl)
       where
-        by : (b : Bool) → looksUp (c .antenna .kop) ≡ b
-            → (answerOf (atGround (c .antenna) (whole m) (columnAt 0) h) .refusal ≡ 0) × (answerOf (atGround (c .antenna) (whole m) (columnAt 0) h) .gain ≡ groundCell (c .antenna .kop) (upFor row) (columnAt 0) h)
+        by : (b : Bool) → looksUp (antennaFor c .kop) ≡ b
+            → (answerOf (atGround (antennaFor c) (whole m) (columnAt 0) h) .refusal ≡ 0) × (answerOf (atGround (antennaFor c) (whole m) (columnAt 0) h) .gain ≡ groundCell (antennaFor c .kop) (upFor row) (columnAt 0) h)
         by true e = unfold atGround upFor groundCell in rw (e, is, ap looksUp (own .0) ∙ e) (refl, refl)
         by false e = unfold atGround groundCell in rw e (refl, refl)

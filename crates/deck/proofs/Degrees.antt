@@ -1,14 +1,17 @@
 -- The elevations of a table's columns: 0 degrees is the ground, 1 to 90 degrees are above it. The MHz of its rows are from 1 to 30. Assumes nothing.
-use mathlib.Core.Path.{sym, subst}
-use mathlib.Core.Bool.{Bool, true, not, _&&_}
+use mathlib.Core.Path.{_≡_, sym, subst}
+use mathlib.Core.Bool.{Bool, true, false, not, _&&_}
 use mathlib.Core.Logic.{inl, inr}
 use Prim.Native.Nat.{ℕ, zero, suc, _<_}
 use native.Mathlib.Nat.{eq-or-lt-of-le, le-of-suc-le-suc, not-suc-le-zero}
 use lib.Dec.{T}
 use lib.Ieee.{ofInt, mul, le, lt, eq, round}
+use lib.Ieee.Bits.{is-false}
 use lib.Ieee.Fits.{and-l, and-r}
 use Rattle.single.specs.Single.{num, whole}
+use Rattle.elementary.specs.Basic.{absolute}
 use Rattle.reflection.specs.Angles.{radiansOf}
+use Rattle.limits.specs.Tests.{outside}
 use Rattle.deck.specs.Columns.{elevationAt}
 
 -- all numbers below n, by one test that computes
@@ -46,3 +49,18 @@ mhz-in-range m h =
     let t = every-at inRange 30 tt m h in
     let x = whole (suc m) in
     (and-l (le (num 1 1) x) (le x (num 30 1)) t, and-r (le (num 1 1) x) (le x (num 30 1)) t)
+
+-- ---- neither is over 1,000: refusal 2
+elevationWithin : ℕ → Bool
+elevationWithin d = not (outside (elevationAt d))
+
+pub elevation-within : (d : ℕ) → d < 91 → outside (elevationAt d) ≡ false
+unfolding every elevationWithin outside absolute radiansOf mul ofInt le lt eq round
+elevation-within d h = is-false (outside (elevationAt d)) (every-at elevationWithin 91 tt d h)
+
+mhzWithin : ℕ → Bool
+mhzWithin m = not (outside (whole m))
+
+pub mhz-within : (m : ℕ) → m < 31 → outside (whole m) ≡ false
+unfolding every mhzWithin outside absolute ofInt le lt eq round
+mhz-within m h = is-false (outside (whole m)) (every-at mhzWithin 31 tt m h)

@@ -15,7 +15,6 @@ use Rattle.parameters.specs.Params.{isType}
 use Rattle.reflection.specs.Angles.{waveOf}
 use Rattle.finish.specs.Finish.{floor, efficiencyOf}
 use Rattle.finish.proofs.Laws.{efficiency-same}
-use Rattle.patterns.specs.Antenna.{antennaOf}
 use Rattle.rows.specs.Row.{heightFor}
 use Rattle.rows.proofs.Height.{height-finite}
 use Rattle.cells.specs.Cell as Cell
@@ -23,15 +22,15 @@ use Rattle.gain_core.specs.Core.{aboveGround, workOf, workNumber}
 use Rattle.gain_core.specs.declared.core.Worked.{Worked}
 use Rattle.gain_core.specs.declared.core.Worked.the-variants as W
 use Rattle.gain_core.proofs.Laws.{OfCall, AboveFloor, left-above, ground-value, up-ground-same, number-same, floor-above}
-use Rattle.independence.specs.Antenna.{Answer, lowered, carriesHeight, looksUp, heightLeft}
+use Rattle.independence.specs.Antenna.{Answer, floorPlus, carriesHeight, looksUp, heightLeft}
 use Rattle.independence.specs.Laws.{Fills, Laws}
 use Rattle.deck.proofs.Degrees.{mhz-in-range}
 use Rattle.deck.specs.declared.fields.Fields.{Fields}
 use Rattle.deck.specs.Fields.{fieldsRefusal}
 use Rattle.deck.specs.Columns.{elevationAt, columnAt}
-use Rattle.deck.specs.Card.{cardOf, answerOf, callOf}
+use Rattle.deck.specs.Card.{cardOf, antennaFor, answerOf, callOf}
 use Rattle.deck.specs.Antenna.{theAntenna}
-use Rattle.deck.proofs.Passes.{is-type, in-range, fields-number, leg-within}
+use Rattle.deck.proofs.Passes.{is-type, in-range, fields-number, params-within}
 use Rattle.deck.proofs.Cells.{call-above, call-ground}
 
 -- ---- answers of a worked call
@@ -65,37 +64,37 @@ module _ (f : Fields) (p : fieldsRefusal f ≡ 0) where
   looks = ap₂ _||_ (kind 3) (kind 4)
 
 -- ---- the height that a row leaves
-pub left-is : (f : Fields) (m : ℕ) → fieldsRefusal f ≡ 0 → heightFor (f .kop) (cardOf f .antenna .leg) (waveOf (whole m)) ≡ heightLeft theAntenna f m
+pub left-is : (f : Fields) (m : ℕ) → fieldsRefusal f ≡ 0 → heightFor (f .kop) (cardOf f .leg) (waveOf (whole m)) ≡ heightLeft theAntenna f m
 unfolding heightFor heightLeft
 left-is f m p = rw (carries f p) refl
 
-mhz-range : (m : ℕ) → 1 ≤ m → m ≤ 30 → T (le (num 1 1) (whole m)) × T (le (whole m) (num 30 1))
+pub mhz-range : (m : ℕ) → 1 ≤ m → m ≤ 30 → T (le (num 1 1) (whole m)) × T (le (whole m) (num 30 1))
 mhz-range zero l h = absurd (not-suc-le-zero l)
 mhz-range (suc m) l h = mhz-in-range m h
 
 left-finite : (f : Fields) (m : ℕ) → Fills theAntenna f m → T (finite (heightLeft theAntenna f m))
-unfolding cardOf antennaOf
+unfolding cardOf antennaFor
 left-finite f m F =
     let r = in-range f (F .passes) in
     let mhz = mhz-range m (omega (arith, r .low, F .low)) (omega (arith, r .high, F .high)) in
-    subst (λ (x : Float). T (finite x)) (left-is f m (F .passes)) (height-finite (f .kop) _ (whole m) (leg-within f (F .passes)) (mhz .0) (mhz .1))
+    subst (λ (x : Float). T (finite x)) (left-is f m (F .passes)) (height-finite (f .kop) _ (whole m) (params-within f (F .passes) .anl) (mhz .0) (mhz .1))
 
 -- ---- on the ground
 module _ (f : Fields) (m : ℕ) (p : fieldsRefusal f ≡ 0) where
   ground-refusal : (h h′ : Float) → callOf (cardOf f) m 0 h .refusal ≡ callOf (cardOf f) m 0 h′ .refusal
   unfolding callOf
   ground-refusal h h′ =
-      let a = cardOf f .antenna in
+      let a = antennaFor (cardOf f) in
       number-is (workOf a (whole m) (elevationAt 0) (columnAt 0) h)
       ∙ number-same a (whole m) (elevationAt 0) (columnAt 0) h h′
       ∙ sym (number-is (workOf a (whole m) (elevationAt 0) (columnAt 0) h′))
 
   ground-same : (h h′ : Float) → T (looksUp (natAbs (f .kop))) → callOf (cardOf f) m 0 h .gain ≡ callOf (cardOf f) m 0 h′ .gain
-  unfolding cardOf antennaOf
+  unfolding cardOf antennaFor
   ground-same h h′ t =
       let up = looks f p ∙ is-true _ t in
       ap (λ (a : Answer). a .gain)
-      (call-ground (cardOf f) m h ∙ ap answerOf (up-ground-same (cardOf f .antenna) (whole m) (columnAt 0) h h′ up) ∙ sym (call-ground (cardOf f) m h′))
+      (call-ground (cardOf f) m h ∙ ap answerOf (up-ground-same (antennaFor (cardOf f)) (whole m) (columnAt 0) h h′ up) ∙ sym (call-ground (cardOf f) m h′))
 
   -- the gain is -30 plus the call's own efficiency, which is the type's
   ground-is : (h : Float) → T (not (looksUp (natAbs (f .kop))))
@@ -106,12 +105,12 @@ module _ (f : Fields) (m : ℕ) (p : fieldsRefusal f ≡ 0) where
         efficiency = efficiencyOf (f .kop) h (num 0 1);
         height = h;
       }
-  unfolding cardOf antennaOf
+  unfolding cardOf antennaFor
   ground-is h n =
-      call-ground (cardOf f) m h ∙ ap answerOf (ground-value (cardOf f .antenna) (whole m) (columnAt 0) h (looks f p ∙ is-false _ n))
+      call-ground (cardOf f) m h ∙ ap answerOf (ground-value (antennaFor (cardOf f)) (whole m) (columnAt 0) h (looks f p ∙ is-false _ n))
 
-  ground-gain : (h : Float) → T (not (looksUp (natAbs (f .kop)))) → callOf (cardOf f) m 0 h .gain ≡ lowered (efficiencyOf (pos (natAbs (f .kop))) h (num 0 1))
-  unfolding lowered
+  ground-gain : (h : Float) → T (not (looksUp (natAbs (f .kop)))) → callOf (cardOf f) m 0 h .gain ≡ floorPlus (efficiencyOf (pos (natAbs (f .kop))) h (num 0 1))
+  unfolding floorPlus
   ground-gain h n = ap (λ (a : Answer). a .gain) (ground-is h n) ∙ ap (λ (k : ℤ). floor ⊞ efficiencyOf k h (num 0 1)) (is-type f p)
 
 -- ---- outside types 2, 3 and 4
@@ -127,8 +126,8 @@ floor-holds f m zero h p l t e =
 floor-holds f m (suc d) h p l t e =
     let o = or-false (eqb (natAbs (f .kop)) 2) (looksUp (natAbs (f .kop))) t in
     let at = call-above (cardOf f) m d h (omega arith) in
-    let own = floor-above (cardOf f .antenna) (whole m) (elevationAt (suc d)) (columnAt (suc d)) (unfold cardOf antennaOf in kind f p 2 ∙ o .0) (unfold cardOf antennaOf in looks f p ∙ is-false _ (o .1)) in
-    subst (λ (a : Answer). AboveFloor (a .gain) (a .efficiency)) (sym at) (answer-floor (aboveGround (cardOf f .antenna) (whole m) (elevationAt (suc d)) (columnAt (suc d))) own (ap (λ (a : Answer). a .refusal) (sym at) ∙ e))
+    let own = floor-above (antennaFor (cardOf f)) (whole m) (elevationAt (suc d)) (columnAt (suc d)) (unfold cardOf antennaFor in kind f p 2 ∙ o .0) (unfold cardOf antennaFor in looks f p ∙ is-false _ (o .1)) in
+    subst (λ (a : Answer). AboveFloor (a .gain) (a .efficiency)) (sym at) (answer-floor (aboveGround (antennaFor (cardOf f)) (whole m) (elevationAt (suc d)) (columnAt (suc d))) own (ap (λ (a : Answer). a .refusal) (sym at) ∙ e))
 
 -- ---- all of them
 pub theLaws : Laws theAntenna
@@ -149,15 +148,15 @@ theLaws =
     }
   where
     call-number : (f : Fields) (m d : ℕ) (h : Float) → (callOf (cardOf f) m d h .refusal ≢ 9) × (callOf (cardOf f) m d h .refusal ≢ 10)
-    call-number f m d h = unfold callOf in answer-number (workOf (cardOf f .antenna) (whole m) (elevationAt d) (columnAt d) h)
+    call-number f m d h = unfold callOf in answer-number (workOf (antennaFor (cardOf f)) (whole m) (elevationAt d) (columnAt d) h)
 
     leaves : (f : Fields) (m d : ℕ) (h : Float) → Fills theAntenna f m → d < 90 → callOf (cardOf f) m (suc d) h .refusal ≡ 0 → callOf (cardOf f) m (suc d) h .height ≡ heightLeft theAntenna f m
     leaves f m d h F l e =
         let at = call-above (cardOf f) m d h l in
-        let a = cardOf f .antenna in
+        let a = antennaFor (cardOf f) in
         ap (λ (x : Answer). x .height) at
         ∙ answer-height _ (aboveGround a (whole m) (elevationAt (suc d)) (columnAt (suc d))) (left-above a (whole m) (elevationAt (suc d)) (columnAt (suc d))) (ap (λ (x : Answer). x .refusal) (sym at) ∙ e)
-        ∙ (unfold cardOf antennaOf in left-is f m (F .passes))
+        ∙ (unfold cardOf antennaFor in left-is f m (F .passes))
 
     same : (kop : ℕ) (h h′ : Float) → T (not (carriesHeight kop)) → efficiencyOf (pos kop) h (num 0 1) ≡ efficiencyOf (pos kop) h′ (num 0 1)
     same kop h h′ n = unfold isType in efficiency-same (pos kop) h h′ (num 0 1) (is-false (carriesHeight kop) n)
@@ -166,5 +165,5 @@ theLaws =
     eight h = unfold efficiencyOf isType in refl
 
     floored : (f : Fields) (m d : ℕ) (h : Float) → Fills theAntenna f m → d < 91 → T (not (eqb (natAbs (f .kop)) 2 || looksUp (natAbs (f .kop)))) → callOf (cardOf f) m d h .refusal ≡ 0
-        → (callOf (cardOf f) m d h .gain ≡ nan) ⊎ (T (lt floor (callOf (cardOf f) m d h .gain)) ⊎ (callOf (cardOf f) m d h .gain ≡ lowered (callOf (cardOf f) m d h .efficiency)))
-    floored f m d h F l t e = unfold lowered in floor-holds f m d h (F .passes) l t e
+        → (callOf (cardOf f) m d h .gain ≡ nan) ⊎ (T (lt floor (callOf (cardOf f) m d h .gain)) ⊎ (callOf (cardOf f) m d h .gain ≡ floorPlus (callOf (cardOf f) m d h .efficiency)))
+    floored f m d h F l t e = unfold floorPlus in floor-holds f m d h (F .passes) l t e

@@ -4,7 +4,7 @@ pub mod Stored
 pub mod Passes
 pub mod Cells
 pub mod Laws
-pub mod Screens
+pub mod BeforeWork
 pub mod Fills
 pub mod CardRows
 pub mod Whole

@@ -26,7 +26,9 @@ use Rattle.deck.specs.Fields.{fieldsOutside, paramsFor, fieldsRefusal}
 pub record Passed (f : Fields) : Type 0 where
   pub type : isIoncapType (f .kop) ≡ true
   pub numbers : fieldsOutside f ≡ false
+  pub conductivity : not (lt (num 0 1) (paramsFor f .asig)) ≡ false
   pub range : isRange (f .first) (f .last) ≡ true
+  pub bays : tooManyBays (f .kop) (paramsFor f .and) ≡ false
 
 pub fields-passed : (f : Fields) → fieldsRefusal f ≡ 0 → Passed f
 unfolding fieldsRefusal inputRefusal firstRefusal
@@ -35,7 +37,8 @@ fields-passed f e =
     let b = passed (fieldsOutside f) 1 _ (a .1) in
     let d = passed (not (lt (num 0 1) (paramsFor f .asig))) 2 _ (b .1) in
     let g = passed (not (isRange (f .first) (f .last))) 3 _ (d .1) in
-    record { type = not-false _ (a .0); numbers = b .0; range = not-false _ (g .0) }
+    let h = passed (tooManyBays (f .kop) (paramsFor f .and)) 4 _ (g .1) in
+    record { type = not-false _ (a .0); numbers = b .0; conductivity = d .0; range = not-false _ (g .0); bays = h .0 }
 
 -- none is 9 or 10
 pub fields-number : (f : Fields) → (fieldsRefusal f ≢ 9) × (fieldsRefusal f ≢ 10)
@@ -85,7 +88,7 @@ range-of (negsuc a) b e = absurd (subst T (sym e) tt)
 pub in-range : (f : Fields) → fieldsRefusal f ≡ 0 → Range (f .first) (f .last)
 in-range f e = range-of (f .first) (f .last) (fields-passed f e .range)
 
--- ---- the leg is within the limits
+-- ---- the off-azimuth and all that `ioninit` reads from the slots are within the limits
 within : (l : List Float) (i : ℕ) → anyOutside l ≡ false → i < length l → outside (getD l i nan) ≡ false
 unfolding anyOutside
 within [] i e h = absurd (not-suc-le-zero h)
@@ -113,21 +116,51 @@ slot-within f i e h =
     let slots = or-left (anyOutside (f .slots)) _ (or-right (anyOutside (f .toaz ∷ [])) _ rest) in
     within (f .slots) i slots (omega (arith, eqb-true (length (f .slots)) 20 long))
 
-abbrev LegWithin : IoncapParams → Type 0
-LegWithin p = outside (p .anl) ≡ false
+pub azimuth-within : (f : Fields) → fieldsRefusal f ≡ 0 → outside (f .toaz) ≡ false
+unfolding fieldsOutside anyOutside
+azimuth-within f e =
+    let rest = or-right (not (eqb (length (f .slots)) 20)) _ (fields-passed f e .numbers) in
+    or-left (outside (f .toaz)) false (or-left (anyOutside (f .toaz ∷ [])) _ rest)
 
-pub leg-within : (f : Fields) → fieldsRefusal f ≡ 0 → outside (paramsFor f .anl) ≡ false
-unfolding ioninitOf paramsOf
-leg-within f e =
-    let six = slot-within f 5 e (omega arith) in
-    let seven = slot-within f 6 e (omega arith) in
-    choose LegWithin (isType (f .kop) 1) _ _ seven
-    (choose LegWithin (isType (f .kop) 2) _ _ six
-    (choose LegWithin (isType (f .kop) 3) _ _ six
-    (choose LegWithin (isType (f .kop) 4) _ _ six
-    (choose LegWithin (isType (f .kop) 5) _ _ quarter-within
-    (choose LegWithin (isType (f .kop) 6) _ _ seven
-    (choose LegWithin (isType (f .kop) 7) _ _ seven
-    (choose LegWithin (isType (f .kop) 8) _ _ six
-    (choose LegWithin (isType (f .kop) 9) _ _ seven
-    (choose LegWithin (isType (f .kop) 10) _ _ seven zero-within)))))))))
+pub record ParamsWithin (p : IoncapParams) : Type 0 where
+  pub asig : outside (p .asig) ≡ false
+  pub aeps : outside (p .aeps) ≡ false
+  pub and : outside (p .and) ≡ false
+  pub anl : outside (p .anl) ≡ false
+  pub anh : outside (p .anh) ≡ false
+  pub aex : anyOutside (p .aex) ≡ false
+
+extras-within : (a b c d : Float) → outside a ≡ false → outside b ≡ false → outside c ≡ false → outside d ≡ false → anyOutside (a ∷ b ∷ c ∷ d ∷ []) ≡ false
+unfolding anyOutside
+extras-within a b c d p q r s = rw (p, q, r, s) refl
+
+module _ (f : Fields) (e : fieldsRefusal f ≡ 0) where
+  -- an arm of `ioninit`
+  arm-within : (angle leg height : Float) (extras : List Float) → outside angle ≡ false → outside leg ≡ false → outside height ≡ false → anyOutside extras ≡ false
+      → ParamsWithin (paramsOf (f .slots) angle leg height extras)
+  unfolding paramsOf
+  arm-within angle leg height extras p q r s =
+      record { asig = slot-within f 3 e (omega arith); aeps = slot-within f 2 e (omega arith); and = p; anl = q; anh = r; aex = s }
+
+  pub params-within : ParamsWithin (paramsFor f)
+  unfolding ioninitOf
+  params-within =
+      let z = zero-within in
+      let six = slot-within f 5 e (omega arith) in
+      let seven = slot-within f 6 e (omega arith) in
+      let eight = slot-within f 7 e (omega arith) in
+      let nine = slot-within f 8 e (omega arith) in
+      let ten = slot-within f 9 e (omega arith) in
+      let zeros = extras-within _ _ _ _ z z z z in
+      choose ParamsWithin (isType (f .kop) 1) _ _ (arm-within _ _ _ _ six seven eight zeros)
+      (choose ParamsWithin (isType (f .kop) 2) _ _ (arm-within _ _ _ _ z six seven zeros)
+      (choose ParamsWithin (isType (f .kop) 3) _ _ (arm-within _ _ _ _ z six seven (extras-within _ _ _ _ eight z z z))
+      (choose ParamsWithin (isType (f .kop) 4) _ _ (arm-within _ _ _ _ z six seven (extras-within _ _ _ _ eight z z z))
+      (choose ParamsWithin (isType (f .kop) 5) _ _ (arm-within _ _ _ _ z quarter-within z (extras-within _ _ _ _ six z z z))
+      (choose ParamsWithin (isType (f .kop) 6) _ _
+      (arm-within _ _ _ _ six seven eight (extras-within _ _ _ _ nine ten (slot-within f 10 e (omega arith)) (slot-within f 11 e (omega arith))))
+      (choose ParamsWithin (isType (f .kop) 7) _ _ (arm-within _ _ _ _ six seven eight (extras-within _ _ _ _ nine z z z))
+      (choose ParamsWithin (isType (f .kop) 8) _ _ (arm-within _ _ _ _ z six seven zeros)
+      (choose ParamsWithin (isType (f .kop) 9) _ _ (arm-within _ _ _ _ six seven eight (extras-within _ _ _ _ nine z z z))
+      (choose ParamsWithin (isType (f .kop) 10) _ _ (arm-within _ _ _ _ six seven eight (extras-within _ _ _ _ nine ten z z))
+      (arm-within _ _ _ _ z z z zeros))))))))))

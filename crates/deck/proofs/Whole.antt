@@ -1,17 +1,12 @@
 -- Demand 3 of the cards that the code runs: over the definitions that its contracts cite. Assumes nothing.
-use mathlib.Core.Path.{_≡_, refl}
+use mathlib.Core.Path.{_≡_}
 use mathlib.Core.Bool.{not}
 use mathlib.Core.List.{List}
 use mathlib.Core.Logic.{_≢_}
 use Prim.Native.Nat.{ℕ, _<_, _≤_}
 use lib.Dec.{T}
 use lib.ListN.{length}
-use lib.Ieee.{Float}
-use Rattle.single.specs.Single.{num, whole}
-use Rattle.elementary.specs.Trigonometric.{sine, cosine}
-use Rattle.reflection.specs.Angles.{elevationOf}
-use Rattle.patterns.specs.Antenna.{antennaOf}
-use Rattle.gain_core.specs.Core.{workOf}
+use Rattle.single.specs.Single.{num}
 use Rattle.independence.specs.Antenna.{carriesHeight}
 use Rattle.independence.specs.Deck.{Entry, Outcome, fresh, run, deckAfterAll, without, acceptedIn, refusedIn}
 use Rattle.independence.specs.Demand3.{Demand3, MayDiffer, outcomeAt, carried}
@@ -20,9 +15,6 @@ use Rattle.independence.proofs.Theorem as D
 use Rattle.independence.proofs.Calls as C
 use Rattle.independence.proofs.Consequences as Q
 use Rattle.deck.specs.declared.fields.Fields.{Fields}
-use Rattle.deck.specs.Fields.{paramsFor}
-use Rattle.deck.specs.Columns.{elevationAt, columnAt}
-use Rattle.deck.specs.Card.{cardOf, callOf, answerOf}
 use Rattle.deck.specs.Antenna.{theAntenna}
 use Rattle.deck.specs.Run.{countLimit}
 use Rattle.deck.proofs.Laws.{theLaws}
@@ -38,13 +30,7 @@ pub demand3-of-calls : (entries : List (Entry theAntenna)) (outcomes : List Outc
     → Demand3 theAntenna entries outcomes k outcomesWithout
 demand3-of-calls = C.demand3-of-calls theAntenna theLaws countLimit
 
--- ---- what stands beside it
--- a card's cell is the work of the gain call on its antenna, MHz and elevation: ioncap's `callWork`
-pub cell-is-gain-call : (f : Fields) (m d : ℕ) (h : Float)
-    → theAntenna .call f m d h ≡ answerOf (workOf (antennaOf (f .kop) (f .toaz) (paramsFor f) (f .model)) (whole m) (elevationAt d) (elevationOf (cosine (elevationAt d)) (sine (elevationAt d))) h)
-unfolding callOf cardOf columnAt
-cell-is-gain-call f m d h = refl
-
+-- ---- what stands beside it. That each number of a table is a gain call's: crate deck_gains
 -- at most one cell of one entry may differ
 pub one-cell : (entries : List (Entry theAntenna)) (outcomes : List Outcome) (k j j′ i i′ : ℕ) → MayDiffer theAntenna entries outcomes k j i → MayDiffer theAntenna entries outcomes k j′ i′ → (j ≡ j′) × (i ≡ i′)
 one-cell = Q.one-cell theAntenna theLaws countLimit

@@ -20,5 +20,5 @@ theAntenna =
       inputRefusal = fieldsRefusal;
       call = λ f. callOf (cardOf f);
       efficiencyOf = λ kop h. efficiencyOf (pos kop) h (num 0 1);
-      wavelengths = λ f m. monopoleOf (cardOf f .antenna .leg) (waveOf (whole m)) .x;
+      wavelengths = λ f m. monopoleOf (cardOf f .leg) (waveOf (whole m)) .x;
     }

@@ -2,7 +2,9 @@
 use Prim.Native.Nat.{ℕ}
 use lib.Ieee.{Float}
 use Rattle.single.specs.Single.{num, whole}
-use Rattle.patterns.specs.Antenna.{antennaOf}
+use Rattle.parameters.specs.Length.{lengthOf}
+use Rattle.patterns.specs.Antenna.{antennaWith}
+use Rattle.patterns.specs.declared.antenna.Antenna.{Antenna}
 use Rattle.gain_core.specs.Core.{workOf}
 use Rattle.gain_core.specs.declared.core.Worked.{Worked}
 use Rattle.gain_core.specs.declared.core.Worked.the-variants as W
@@ -12,8 +14,23 @@ use Rattle.deck.specs.declared.card.Card.{Card}
 use Rattle.deck.specs.Fields.{paramsFor}
 use Rattle.deck.specs.Columns.{elevationAt, columnAt}
 
+-- the leg and the height by the term "kind", metres or wavelengths, once `ioninit` has read the slots
 unfoldable pub cardOf : Fields → Card
-cardOf f = record { first = f .first; last = f .last; antenna = antennaOf (f .kop) (f .toaz) (paramsFor f) (f .model) }
+cardOf f =
+    record {
+      kop = f .kop;
+      first = f .first;
+      last = f .last;
+      toaz = f .toaz;
+      params = paramsFor f;
+      leg = lengthOf (paramsFor f .anl);
+      height = lengthOf (paramsFor f .anh);
+      model = f .model;
+    }
+
+-- what the gain call takes from a card
+unfoldable pub antennaFor : Card → Antenna
+antennaFor c = antennaWith (c .kop) (c .toaz) (c .params) (c .leg) (c .height) (c .model)
 
 -- 11 arises in the work. It ends the card, which keeps the height that it found, so no height is taken from such a call
 abbrev pub answerOf : Worked → Answer
@@ -22,4 +39,4 @@ answerOf W.Unsettled = record { refusal = 11; gain = num 0 1; efficiency = num 0
 
 -- the gain call at m MHz and d degrees, with the height h
 unfoldable pub callOf : Card → ℕ → ℕ → Float → Answer
-callOf c m d h = answerOf (workOf (c .antenna) (whole m) (elevationAt d) (columnAt d) h)
+callOf c m d h = answerOf (workOf (antennaFor c) (whole m) (elevationAt d) (columnAt d) h)

@@ -9,15 +9,15 @@ use lib.Ieee.{Float}
 use Rattle.reflection.specs.declared.angles.Azimuth.{Azimuth}
 use Rattle.reflection.specs.declared.angles.Elevation.{Elevation}
 use Rattle.finish.specs.Finish.{groundOf}
+use Rattle.patterns.specs.declared.antenna.Antenna.{Antenna}
 use Rattle.rows.specs.declared.row.Row.{Row}
 use Rattle.cells.specs.Cell.{blendOf, looksUp, cellGain}
 use Rattle.table.specs.Table.{gainAt}
 use Rattle.independence.specs.Laws.{Fills}
 use Rattle.independence.specs.Contracts.{RowDone}
-use Rattle.deck.specs.declared.card.Card.{Card}
 use Rattle.deck.specs.declared.fields.Fields.{Fields}
 use Rattle.deck.specs.Columns.{elevationAt, columnAt}
-use Rattle.deck.specs.Card.{cardOf}
+use Rattle.deck.specs.Card.{cardOf, antennaFor}
 use Rattle.deck.specs.Antenna.{theAntenna}
 
 -- the ground gain, given the row's gain straight up
@@ -33,7 +33,7 @@ unfoldable pub storedAbove : (ℕ → Float) → ℕ → ℕ → List Float → 
 storedAbove gain m zero t = t
 storedAbove gain m (suc n) t = set (storedAbove gain m n t) (gainAt m (suc n)) (gain (suc n))
 
--- a card's row, whichever fields the card was read from
-abbrev pub RowOfFields : Card → ℕ → Float → List Float → List Float → ℕ → Float → Type 0
-RowOfFields card m h t t′ refusal left =
-    (f : Fields) → card ≡ cardOf f → Fills theAntenna f m → RowDone theAntenna f m h t t′ refusal left
+-- the row at m MHz of a card with this antenna, whichever fields the card was read from
+abbrev pub RowOfFields : Antenna → ℕ → Float → List Float → List Float → ℕ → Float → Type 0
+RowOfFields antenna m h t t′ refusal left =
+    (f : Fields) → antenna ≡ antennaFor (cardOf f) → Fills theAntenna f m → RowDone theAntenna f m h t t′ refusal left

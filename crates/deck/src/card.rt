@@ -1,14 +1,22 @@
 // A card as it is read: its leg and height are each metres or wavelengths.
 ghost use mathlib.Core.Path.{_≡_};
-ghost use Rattle.deck.specs.Card.{cardOf};
+ghost use Rattle.deck.specs.Card.{cardOf, antennaFor};
 use crate::fields::Fields;
+use parameters::IoncapParams;
+use parameters::Length;
+use parameters::Model;
 use patterns::Antenna;
 
-// The antenna has the type, the leg and height by kind, and the model.
+// `params` are the slots as `ioninit` reads them, `toaz` the off-azimuth in degrees.
 pub(crate) struct Card {
+    pub kop: i32,
     pub first: i32,
     pub last: i32,
-    pub antenna: Antenna,
+    pub toaz: f32,
+    pub params: IoncapParams,
+    pub leg: Length,
+    pub height: Length,
+    pub model: Model,
 }
 
 pub(crate) fn read_card(fields: Fields) -> Card
@@ -24,8 +32,29 @@ pub(crate) fn read_card(fields: Fields) -> Card
     } = fields;
     let params = parameters::ioninit(kop, &slots);
     Card {
+        kop,
         first,
         last,
-        antenna: patterns::antenna_of(kop, toaz, params, model),
+        toaz,
+        params,
+        leg: parameters::read_length(params.anl),
+        height: parameters::read_length(params.anh),
+        model,
     }
+}
+
+// What holds for all rows of the card, the azimuth's sine and cosine too.
+pub(crate) fn card_antenna(card: Card) -> Antenna
+    ensures { λ r. ⌜ r ≡ antennaFor card ⌝ }
+{
+    let Card {
+        kop,
+        toaz,
+        params,
+        leg,
+        height,
+        model,
+        ..
+    } = card;
+    patterns::antenna_with(kop, toaz, params, leg, height, model)
 }

@@ -4,6 +4,7 @@ ghost use lib.ListN.{length};
 ghost use Rattle.independence.specs.Contracts.{CardDone};
 ghost use Rattle.deck.specs.Fields.{fieldsRefusal};
 ghost use Rattle.deck.specs.Antenna.{theAntenna};
+use crate::card::card_antenna;
 use crate::card::read_card;
 use crate::columns::Columns;
 use crate::columns::all_columns;
@@ -16,6 +17,7 @@ pub(crate) fn fill_card(fields: Fields, height: f32, table: &mut [f32]) -> Fille
     ensures { λ r. ⌜ CardDone theAntenna fields height (now (table .entry)) (now (table .exit)) (r .refusal) (r .height) ⌝ }
 {
     let card = read_card(fields);
+    let antenna = card_antenna(card);
     let Columns {
         deltas,
         cosines,
@@ -26,7 +28,7 @@ pub(crate) fn fill_card(fields: Fields, height: f32, table: &mut [f32]) -> Fille
     let mut x = height;
     let mut n: usize = 0;
     while n < count {
-        let r = fill_row(card, first + n, x, &deltas, &cosines, &sines, table);
+        let r = fill_row(antenna, first + n, x, &deltas, &cosines, &sines, table);
         if r.refusal != 0 {
             return Filled {
                 refusal: r.refusal,

@@ -9,6 +9,6 @@ mod run;
 pub use deck_state::Deck;
 pub use deck_state::fresh;
 pub use fields::Fields;
-pub use run::Ran;
+pub use run::CardAnswer;
 pub use run::run_card;
 pub use run::run_malformed;

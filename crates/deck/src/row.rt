@@ -4,7 +4,7 @@ ghost use Prim.Native.Nat.{_≤_};
 ghost use lib.ListN.{length};
 ghost use Rattle.deck.specs.Columns.{ColumnsAre};
 ghost use Rattle.deck.specs.Row.{groundCell, cellAt, storedAbove, RowOfFields};
-use crate::card::Card;
+use patterns::Antenna;
 use reflection::Azimuth;
 use reflection::Elevation;
 use rows::Row;
@@ -54,7 +54,7 @@ fn fill_above(
 
 // The ground cell alone takes the height that the row finds.
 pub(crate) fn fill_row(
-    card: Card,
+    antenna: Antenna,
     m: usize,
     height: f32,
     deltas: &[f32],
@@ -63,9 +63,8 @@ pub(crate) fn fill_row(
     table: &mut [f32],
 ) -> Filled
     requires { ⌜ (length (now table) ≡ 2760) × (1 ≤ m) × (m ≤ 30) × ColumnsAre (now deltas) (now cosines) (now sines) 91 ⌝ }
-    ensures { λ r. ⌜ RowOfFields card m height (now (table .entry)) (now (table .exit)) (r .refusal) (r .height) ⌝ }
+    ensures { λ r. ⌜ RowOfFields antenna m height (now (table .entry)) (now (table .exit)) (r .refusal) (r .height) ⌝ }
 {
-    let antenna = card.antenna;
     let mhz = m as u16;
     let RowAnswer::Settled(row, _) = rows::row_of(antenna, mhz as f32) else {
         return Filled {

@@ -1,6 +1,6 @@
 // The deck: the carried height and the counts, and the entries that are run on it.
 ghost use mathlib.Core.Path.{_≡_};
-ghost use Rattle.independence.specs.Contracts.{screened, screenedMalformed, EntryDone};
+ghost use Rattle.independence.specs.Contracts.{refusalBeforeWork, malformedRefusal, EntryDone};
 ghost use Rattle.deck.specs.Antenna.{theAntenna};
 ghost use Rattle.deck.specs.Run.{countLimit, stateOf, cardEntry, malformedEntry};
 use crate::fields::Fields;
@@ -13,15 +13,15 @@ use deck_state::state_refusal;
 // The refusal of a malformed line.
 const MALFORMED: u32 = 8;
 
-// `verdict` is the refusal number, 0 if accepted.
-pub struct Ran {
+// What a card's run answers. `verdict` is the refusal number, 0 if accepted.
+pub struct CardAnswer {
     pub deck: Deck,
     pub verdict: u32,
 }
 
-// All refusals that come before the work.
-fn screen(deck: Deck, fields: Fields, table: &[f32]) -> u32
-    ensures { λ r. ⌜ r ≡ screened theAntenna countLimit (stateOf deck) fields (now (table .entry)) ⌝ }
+// All but 11, which arises in the work.
+fn refusal_before_work(deck: Deck, fields: Fields, table: &[f32]) -> u32
+    ensures { λ r. ⌜ r ≡ refusalBeforeWork theAntenna countLimit (stateOf deck) fields (now (table .entry)) ⌝ }
 {
     let verdict = state_refusal(deck, table);
     if verdict != 0 {
@@ -30,8 +30,8 @@ fn screen(deck: Deck, fields: Fields, table: &[f32]) -> u32
     card_refusal(fields)
 }
 
-fn screen_malformed(deck: Deck, table: &[f32]) -> u32
-    ensures { λ r. ⌜ r ≡ screenedMalformed theAntenna countLimit (stateOf deck) (now (table .entry)) ⌝ }
+fn malformed_refusal(deck: Deck, table: &[f32]) -> u32
+    ensures { λ r. ⌜ r ≡ malformedRefusal theAntenna countLimit (stateOf deck) (now (table .entry)) ⌝ }
 {
     let verdict = state_refusal(deck, table);
     if verdict != 0 {
@@ -41,13 +41,13 @@ fn screen_malformed(deck: Deck, table: &[f32]) -> u32
 }
 
 // The table is cleared, then filled; a refused one is cleared again, and the height found is kept.
-pub fn run_card(deck: Deck, fields: Fields, table: &mut [f32]) -> Ran
+pub fn run_card(deck: Deck, fields: Fields, table: &mut [f32]) -> CardAnswer
     ensures { λ r. ⌜ EntryDone theAntenna countLimit (stateOf deck) (cardEntry fields (now (table .entry))) (now (table .exit)) (r .verdict) (stateOf (r .deck)) ⌝ }
 {
-    let verdict = screen(deck, fields, table);
+    let verdict = refusal_before_work(deck, fields, table);
     table::clear_refused(table);
     if verdict != 0 {
-        return Ran {
+        return CardAnswer {
             deck: refused_deck(deck, verdict),
             verdict,
         };
@@ -55,12 +55,12 @@ pub fn run_card(deck: Deck, fields: Fields, table: &mut [f32]) -> Ran
     let filled = fill_card(fields, deck.height, table);
     if filled.refusal != 0 {
         table::clear_refused(table);
-        return Ran {
+        return CardAnswer {
             deck: refused_deck(deck, filled.refusal),
             verdict: filled.refusal,
         };
     }
-    Ran {
+    CardAnswer {
         deck: Deck {
             height: filled.height,
             accepted: deck.accepted + 1,
@@ -70,12 +70,12 @@ pub fn run_card(deck: Deck, fields: Fields, table: &mut [f32]) -> Ran
     }
 }
 
-pub fn run_malformed(deck: Deck, table: &mut [f32]) -> Ran
+pub fn run_malformed(deck: Deck, table: &mut [f32]) -> CardAnswer
     ensures { λ r. ⌜ EntryDone theAntenna countLimit (stateOf deck) (malformedEntry (now (table .entry))) (now (table .exit)) (r .verdict) (stateOf (r .deck)) ⌝ }
 {
-    let verdict = screen_malformed(deck, table);
+    let verdict = malformed_refusal(deck, table);
     table::clear_refused(table);
-    Ran {
+    CardAnswer {
         deck: refused_deck(deck, verdict),
         verdict,
     }

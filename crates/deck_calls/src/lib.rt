@@ -52,6 +52,6 @@ pub extern "C" fn deck_fill(
         accepted: 0,
         refused: 0,
     };
-    let ran = deck::run_card(empty, fields, table);
-    ran.verdict
+    let answer = deck::run_card(empty, fields, table);
+    answer.verdict
 }

@@ -37,8 +37,8 @@ fn count_differences(a: &[f32], b: &[f32]) -> Differences
 
 // The verdict is 0 if accepted.
 fn fill_curtain(elements: f32, table: &mut [f32]) -> u32 {
-    let ran = deck::run_card(deck::fresh(), curtain(1, 30, elements), table);
-    ran.verdict
+    let answer = deck::run_card(deck::fresh(), curtain(1, 30, elements), table);
+    answer.verdict
 }
 
 fn print_compared(text: &[u8], ten: u32, other: u32, d: Differences) {

@@ -1,8 +1,8 @@
 // The cards of the examples: dielectric 4 and conductivity 0.01.
 use crate::tables::BEFORE;
+use deck::CardAnswer;
 use deck::Deck;
 use deck::Fields;
-use deck::Ran;
 use parameters::Model;
 
 // The values are slots 6 to 12.
@@ -74,7 +74,7 @@ pub(crate) fn entry_card(k: usize) -> Fields {
 }
 
 // Each entry brings the same table.
-pub(crate) fn run_entry(k: usize, deck: Deck, table: &mut [f32]) -> Ran {
+pub(crate) fn run_entry(k: usize, deck: Deck, table: &mut [f32]) -> CardAnswer {
     table::fill(table, BEFORE);
     if k == MALFORMED {
         return deck::run_malformed(deck, table);

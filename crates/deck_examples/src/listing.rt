@@ -48,13 +48,13 @@ fn type_two() -> Fields {
 fn print_card(kop: u32, fields: Fields, deck: Deck, table: &mut [f32]) -> Deck
     requires { ⌜ length (now table) ≡ 2760 ⌝ }
 {
-    let ran = deck::run_card(deck, fields, table);
+    let answer = deck::run_card(deck, fields, table);
     print_narrow(kop);
-    print_narrow(ran.verdict);
+    print_narrow(answer.verdict);
     print(b"\n");
     print_row(1, 2, table);
     print_row(2, 3, table);
-    ran.deck
+    answer.deck
 }
 
 fn print_swapped(table: &mut [f32])

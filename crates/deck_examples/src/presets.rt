@@ -6,8 +6,8 @@ use crate::tables::count;
 use crate::text::print;
 use crate::text::print_hundredths;
 use crate::text::print_number;
+use deck::CardAnswer;
 use deck::Deck;
-use deck::Ran;
 use table::TABLE_LENGTH;
 
 const MAX: u32 = 4_294_967_295;
@@ -22,11 +22,11 @@ fn print_counts_of(deck: Deck) {
 }
 
 // How many of the table's numbers are 0, and how many are as they were.
-fn print_ran(ran: Ran, table: &[f32]) {
+fn print_answer(answer: CardAnswer, table: &[f32]) {
     print(b"    verdict ");
-    print_number(ran.verdict as u64);
+    print_number(answer.verdict as u64);
     print(b", ");
-    print_counts_of(ran.deck);
+    print_counts_of(answer.deck);
     print(b", zeros ");
     print_number(count(table, 0.0));
     print(b", as before ");
@@ -37,14 +37,14 @@ fn print_ran(ran: Ran, table: &[f32]) {
 // A card of one row.
 fn print_card(deck: Deck, table: &mut [f32]) {
     table::fill(table, BEFORE);
-    let ran = deck::run_card(deck, rhombic(5, 5), table);
-    print_ran(ran, table);
+    let answer = deck::run_card(deck, rhombic(5, 5), table);
+    print_answer(answer, table);
 }
 
 fn print_malformed(deck: Deck, table: &mut [f32]) {
     table::fill(table, BEFORE);
-    let ran = deck::run_malformed(deck, table);
-    print_ran(ran, table);
+    let answer = deck::run_malformed(deck, table);
+    print_answer(answer, table);
 }
 
 // Both on the deck as it is given.

@@ -6,6 +6,7 @@ ghost use Rattle.deck_state.specs.DeckState.{stateOf, isFull, stateRefus
 // From here on a card is refused by 10.
 const COUNT_LIMIT: u64 = 1_000_000;
 
+// The term "deck" of section 8.
 pub struct Deck {
     pub height: f32,
     pub accepted: u32,

@@ -19,7 +19,7 @@ use Rattle.independence.specs.Laws.{Laws}
 use Rattle.independence.specs.Filling.{cardRefusal, rowsIn, rowsOf}
 use Rattle.independence.specs.Deck.{Deck, refusedDeck, fresh, card, malformed, Entry, Outcome, verdictOn, tableBy, deckBy, outcomeOn, deckAfter, run, without}
 use Rattle.independence.specs.Demand3.{Demand3}
-use Rattle.independence.specs.Contracts.{CardDone, screened, screenedMalformed, EntryDone, CallsDone}
+use Rattle.independence.specs.Contracts.{CardDone, refusalBeforeWork, malformedRefusal, EntryDone, CallsDone}
 use Rattle.independence.proofs.Rows.{cleared-length}
 use Rattle.independence.proofs.Verdicts.{passed, none-found}
 use Rattle.independence.proofs.Theorem.{demand3}
@@ -50,8 +50,8 @@ unfolding isTable
 is-table t t′ l e = ap (λ (n : ℕ). eqb n 2760) l ∙ e
 
 module _ (A : Antenna) (L : Laws A) (limit : ℕ) where
-  -- ---- what an accepting screen tells
-  pub record Screened (d : Deck) (c : A .Card) (t : List Float) : Type 0 where
+  -- ---- what is known where no refusal comes before the work
+  pub record NoneBeforeWork (d : Deck) (c : A .Card) (t : List Float) : Type 0 where
     pub room : d .accepted + d .refused < limit
     pub table : isTable t ≡ true
     pub input : A .inputRefusal c ≡ 0
@@ -59,9 +59,9 @@ module _ (A : Antenna) (L : Laws A) (limit : ℕ) where
     pub order : A .first c ≤ A .last c
     pub high : A .last c ≤ 30
 
-  pub screen-passed : (d : Deck) (c : A .Card) (t : List Float) → screened A limit d c t ≡ 0 → Screened d c t
-  unfolding screened firstRefusal
-  screen-passed d c t e =
+  pub none-before-work : (d : Deck) (c : A .Card) (t : List Float) → refusalBeforeWork A limit d c t ≡ 0 → NoneBeforeWork d c t
+  unfolding refusalBeforeWork firstRefusal
+  none-before-work d c t e =
       let a = passed (leb limit (d .accepted + d .refused)) 9 _ e in
       let b = passed (not (isTable t)) 6 _ (passed (not (finite (d .height))) 8 _ (a .1) .1) in
       let p = none-found (A .inputRefusal c) 0 (b .1) .0 in
@@ -73,30 +73,30 @@ module _ (A : Antenna) (L : Laws A) (limit : ℕ) where
   room-by true d v r e p n = absurd (n p)
   room-by false d v r e p n = leb-false limit (d .accepted + d .refused) e
 
-  pub screen-room : (d : Deck) (c : A .Card) (t : List Float) (v : ℕ) → v ≡ screened A limit d c t → v ≢ 10 → d .accepted + d .refused < limit
-  unfolding screened firstRefusal
-  screen-room d c t v p n = room-by (leb limit (d .accepted + d .refused)) d v _ refl p n
+  pub room-before-work : (d : Deck) (c : A .Card) (t : List Float) (v : ℕ) → v ≡ refusalBeforeWork A limit d c t → v ≢ 10 → d .accepted + d .refused < limit
+  unfolding refusalBeforeWork firstRefusal
+  room-before-work d c t v p n = room-by (leb limit (d .accepted + d .refused)) d v _ refl p n
 
-  pub screen-room-malformed : (d : Deck) (t : List Float) (v : ℕ) → v ≡ screenedMalformed A limit d t → v ≢ 10 → d .accepted + d .refused < limit
-  unfolding screenedMalformed firstRefusal
-  screen-room-malformed d t v p n = room-by (leb limit (d .accepted + d .refused)) d v _ refl p n
+  pub room-malformed : (d : Deck) (t : List Float) (v : ℕ) → v ≡ malformedRefusal A limit d t → v ≢ 10 → d .accepted + d .refused < limit
+  unfolding malformedRefusal firstRefusal
+  room-malformed d t v p n = room-by (leb limit (d .accepted + d .refused)) d v _ refl p n
 
-  -- ---- the verdict is the screen's, or else the filling's
+  -- ---- the verdict is the refusal before the work, or else the filling's
   -- the tests 10, 9, 7 and the input's, then the filling's refusal w
-  screen-first : (a b f : Bool) (n w : ℕ)
+  first-of-both : (a b f : Bool) (n w : ℕ)
       → (cond a 10 (cond b 9 (cond f 7 (cond (not (eqb n 0)) n 0))) ≢ 0 → cond a 10 (cond b 9 (cond f 7 (cond (not (eqb n 0)) n (cond (not (eqb w 0)) w 0)))) ≡ cond a 10 (cond b 9 (cond f 7 (cond (not (eqb n 0)) n 0))))
       × (cond a 10 (cond b 9 (cond f 7 (cond (not (eqb n 0)) n 0))) ≡ 0 → cond a 10 (cond b 9 (cond f 7 (cond (not (eqb n 0)) n (cond (not (eqb w 0)) w 0)))) ≡ w)
-  screen-first true b f n w = (λ p. refl, λ p. let z : ⊥ = omega arith in absurd z)
-  screen-first false true f n w = (λ p. refl, λ p. let z : ⊥ = omega arith in absurd z)
-  screen-first false false true n w = (λ p. refl, λ p. let z : ⊥ = omega arith in absurd z)
-  screen-first false false false zero w = (λ p. absurd (p refl), λ p. found-last w)
-  screen-first false false false (suc n) w = rw (eqb·suc-zero n) (λ p. refl, λ p. let z : ⊥ = omega arith in absurd z)
+  first-of-both true b f n w = (λ p. refl, λ p. let z : ⊥ = omega arith in absurd z)
+  first-of-both false true f n w = (λ p. refl, λ p. let z : ⊥ = omega arith in absurd z)
+  first-of-both false false true n w = (λ p. refl, λ p. let z : ⊥ = omega arith in absurd z)
+  first-of-both false false false zero w = (λ p. absurd (p refl), λ p. found-last w)
+  first-of-both false false false (suc n) w = rw (eqb·suc-zero n) (λ p. refl, λ p. let z : ⊥ = omega arith in absurd z)
 
-  verdict-screen : (d : Deck) (c : A .Card) (t : List Float)
-      → (screened A limit d c t ≢ 0 → verdictOn A limit d (record { line = card c; table = t }) ≡ screened A limit d c t)
-      × (screened A limit d c t ≡ 0 → verdictOn A limit d (record { line = card c; table = t }) ≡ cardRefusal A c (d .height))
-  unfolding screened verdictOn firstRefusal
-  verdict-screen d c t = screen-first (leb limit (d .accepted + d .refused)) (not (finite (d .height))) (not (isTable t)) (A .inputRefusal c) (cardRefusal A c (d .height))
+  verdict-of-both : (d : Deck) (c : A .Card) (t : List Float)
+      → (refusalBeforeWork A limit d c t ≢ 0 → verdictOn A limit d (record { line = card c; table = t }) ≡ refusalBeforeWork A limit d c t)
+      × (refusalBeforeWork A limit d c t ≡ 0 → verdictOn A limit d (record { line = card c; table = t }) ≡ cardRefusal A c (d .height))
+  unfolding refusalBeforeWork verdictOn firstRefusal
+  verdict-of-both d c t = first-of-both (leb limit (d .accepted + d .refused)) (not (finite (d .height))) (not (isTable t)) (A .inputRefusal c) (cardRefusal A c (d .height))
 
   -- ---- an entry's run by its verdict
   by-verdict : (d : Deck) (e : Entry A) (t′ : List Float) (v : ℕ) (d′ : Deck) → verdictOn A limit d e ≡ v → t′ ≡ tableBy A limit e (d .height) v → d′ ≡ deckBy A limit e d v → EntryDone A limit d e t′ v d′
@@ -110,14 +110,14 @@ module _ (A : Antenna) (L : Laws A) (limit : ℕ) where
   by-refusal d e t′ (suc v) d′ p n q r = by-verdict d e t′ (suc v) d′ p q r
 
   -- refused before the work
-  pub entry-screened : (d : Deck) (c : A .Card) (t t′ : List Float) (v : ℕ) (d′ : Deck) → v ≡ screened A limit d c t → v ≢ 0 → t′ ≡ refusedTable t → d′ ≡ refusedDeck d v
+  pub entry-refused-before : (d : Deck) (c : A .Card) (t t′ : List Float) (v : ℕ) (d′ : Deck) → v ≡ refusalBeforeWork A limit d c t → v ≢ 0 → t′ ≡ refusedTable t → d′ ≡ refusedDeck d v
       → EntryDone A limit d (record { line = card c; table = t }) t′ v d′
-  entry-screened d c t t′ v d′ s n q r =
-      by-refusal d (record { line = card c; table = t }) t′ v d′ (verdict-screen d c t .0 (λ z. n (s ∙ z)) ∙ sym s) n q r
+  entry-refused-before d c t t′ v d′ s n q r =
+      by-refusal d (record { line = card c; table = t }) t′ v d′ (verdict-of-both d c t .0 (λ z. n (s ∙ z)) ∙ sym s) n q r
 
-  pub entry-malformed : (d : Deck) (t t′ : List Float) (v : ℕ) (d′ : Deck) → v ≡ screenedMalformed A limit d t → t′ ≡ refusedTable t → d′ ≡ refusedDeck d v
+  pub entry-malformed : (d : Deck) (t t′ : List Float) (v : ℕ) (d′ : Deck) → v ≡ malformedRefusal A limit d t → t′ ≡ refusedTable t → d′ ≡ refusedDeck d v
       → EntryDone A limit d (record { line = malformed; table = t }) t′ v d′
-  unfolding screenedMalformed verdictOn firstRefusal
+  unfolding malformedRefusal verdictOn firstRefusal
   entry-malformed d t t′ v d′ s q r =
       by-refusal d (record { line = malformed; table = t }) t′ v d′ (sym s) (λ z. never (leb limit (d .accepted + d .refused)) (not (finite (d .height))) (not (isTable t)) (sym s ∙ z)) q r
     where
@@ -128,22 +128,22 @@ module _ (A : Antenna) (L : Laws A) (limit : ℕ) where
       never false false false p = omega arith
 
   -- refused in the work: the table was cleared to t₁, filled in part to t₂ and cleared again
-  pub entry-refused : (d : Deck) (c : A .Card) (t t₁ t₂ t′ : List Float) (r : ℕ) (x : Float) (d′ : Deck) → 0 ≡ screened A limit d c t → t₁ ≡ refusedTable t
+  pub entry-refused : (d : Deck) (c : A .Card) (t t₁ t₂ t′ : List Float) (r : ℕ) (x : Float) (d′ : Deck) → 0 ≡ refusalBeforeWork A limit d c t → t₁ ≡ refusedTable t
       → CardDone A c (d .height) t₁ t₂ r x → r ≢ 0 → t′ ≡ refusedTable t₂ → d′ ≡ refusedDeck d r → EntryDone A limit d (record { line = card c; table = t }) t′ r d′
   entry-refused d c t t₁ t₂ t′ r x d′ s p done n q w =
-      let table = screen-passed d c t (sym s) .table in
+      let table = none-before-work d c t (sym s) .table in
       let long : length t₂ ≡ length t = done .length ∙ ap length p ∙ refused-length t in
-      by-refusal d (record { line = card c; table = t }) t′ r d′ (verdict-screen d c t .1 (sym s) ∙ sym (done .verdict)) n
+      by-refusal d (record { line = card c; table = t }) t′ r d′ (verdict-of-both d c t .1 (sym s) ∙ sym (done .verdict)) n
       (q ∙ table-cleared t₂ (is-table t t₂ long table) ∙ sym (table-cleared t table)) w
 
   -- accepted
-  pub entry-accepted : (d : Deck) (c : A .Card) (t t₁ t′ : List Float) (r : ℕ) (x : Float) → 0 ≡ screened A limit d c t → t₁ ≡ refusedTable t
+  pub entry-accepted : (d : Deck) (c : A .Card) (t t₁ t′ : List Float) (r : ℕ) (x : Float) → 0 ≡ refusalBeforeWork A limit d c t → t₁ ≡ refusedTable t
       → CardDone A c (d .height) t₁ t′ r x → r ≡ 0 → EntryDone A limit d (record { line = card c; table = t }) t′ 0 (record { height = x; accepted = d .accepted + 1; refused = d .refused })
   unfolding tableBy deckBy
   entry-accepted d c t t₁ t′ r x s p done z =
       by-verdict d (record { line = card c; table = t }) t′ 0 (record { height = x; accepted = d .accepted + 1; refused = d .refused })
-      (verdict-screen d c t .1 (sym s) ∙ sym (done .verdict) ∙ z)
-      (done .table z ∙ ap (rowsIn A c (d .height) (rowsOf A c)) (p ∙ table-cleared t (screen-passed d c t (sym s) .table)))
+      (verdict-of-both d c t .1 (sym s) ∙ sym (done .verdict) ∙ z)
+      (done .table z ∙ ap (rowsIn A c (d .height) (rowsOf A c)) (p ∙ table-cleared t (none-before-work d c t (sym s) .table)))
       (λ i. record { height = done .height z i; accepted = add-one (d .accepted) i; refused = d .refused })
 
   -- ---- calls in turn that meet the contract give the run's outcomes, so demand 3 holds of them

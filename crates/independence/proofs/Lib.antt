@@ -1,4 +1,5 @@
 pub mod Rows
+pub mod Efficiencies
 pub mod Verdicts
 pub mod Runs
 pub mod Rules

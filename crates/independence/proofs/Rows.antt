@@ -12,7 +12,7 @@ use lib.Dec.{T}
 use lib.Ieee.{Float}
 use Rattle.single.specs.Single.{num}
 use Rattle.table.specs.Table.{gainAt, efficiencyAt, cleared}
-use Rattle.independence.specs.Antenna.{Antenna, Answer, lowered, carriesHeight, looksUp, heightLeft}
+use Rattle.independence.specs.Antenna.{Antenna, Answer, floorPlus, carriesHeight, looksUp, heightLeft}
 use Rattle.independence.specs.Laws.{Fills, Laws}
 use Rattle.independence.specs.Filling.{firstOf, heightAt, callAt, cellsRefusal, gainsIn, rowIn, heightAfter, rowsRefusal, rowsIn}
 use Rattle.independence.specs.Demand3.{cell, carriedAfterRows}
@@ -27,7 +27,7 @@ other-row m m′ d e l l′ h k k′ = omega arith
 no-efficiency : (m m′ d : ℕ) → m ≤ 30 → d < 91 → gainAt m d ≢ efficiencyAt m′
 no-efficiency m m′ d h k = omega arith
 
-below-suc : (d n : ℕ) → d < suc n → (d ≡ n) ⊎ (d < n)
+pub below-suc : (d n : ℕ) → d < suc n → (d ≡ n) ⊎ (d < n)
 below-suc d n h = elim (eq-or-lt-of-le (le-of-suc-le-suc h)) [ inl e ↦ inl e | inr l ↦ inr l ]
 
 pub cleared-length : length cleared ≡ 2760
@@ -249,11 +249,11 @@ module _ (A : Antenna) (L : Laws A) where
   ground-same c m h h′ F e other = go (looksUp (A .typeOf c)) (L .groundSame c m h h′ F) (L .groundGain c m h F) (L .groundGain c m h′ F)
     where
       go : (b : Bool) → (T b → A .call c m 0 h .gain ≡ A .call c m 0 h′ .gain)
-          → (T (not b) → A .call c m 0 h .refusal ≡ 0 → A .call c m 0 h .gain ≡ lowered (A .efficiencyOf (A .typeOf c) h))
-          → (T (not b) → A .call c m 0 h′ .refusal ≡ 0 → A .call c m 0 h′ .gain ≡ lowered (A .efficiencyOf (A .typeOf c) h′))
+          → (T (not b) → A .call c m 0 h .refusal ≡ 0 → A .call c m 0 h .gain ≡ floorPlus (A .efficiencyOf (A .typeOf c) h))
+          → (T (not b) → A .call c m 0 h′ .refusal ≡ 0 → A .call c m 0 h′ .gain ≡ floorPlus (A .efficiencyOf (A .typeOf c) h′))
           → A .call c m 0 h .gain ≡ A .call c m 0 h′ .gain
       go true up g g′ = up tt
-      go false up g g′ = g tt e ∙ ap lowered (L .efficiencySame (A .typeOf c) h h′ other) ∙ sym (g′ tt (L .groundRefusal c m h′ h F ∙ e))
+      go false up g g′ = g tt e ∙ ap floorPlus (L .efficiencySame (A .typeOf c) h h′ other) ∙ sym (g′ tt (L .groundRefusal c m h′ h F ∙ e))
 
   -- lists that agree once a cell is overwritten agree in the others, and are equal if they agree in that cell
   pub agree-elsewhere : (l l′ : List Float) (i j : ℕ) (z : Float) → set l i z ≡ set l′ i z → j ≢ i → cell l j ≡ cell l′ j

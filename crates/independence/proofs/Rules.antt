@@ -7,16 +7,18 @@ use Prim.Native.Nat.{ℕ, zero, suc, _+_, _-_, _<_, _≤_, zero-le, suc-le-suc}
 use native.Mathlib.Omega.{arith}
 use lib.Dec.{T, eqb}
 use lib.Ieee.{Float, nan, lt, neg, round}
+use lib.Ieee.Scale.{finite}
 use Rattle.single.specs.Single.{num}
 use Rattle.finish.specs.Finish.{floor}
-use Rattle.table.specs.Table.{gainAt, cleared}
-use Rattle.independence.specs.Antenna.{Antenna, lowered, looksUp}
+use Rattle.table.specs.Table.{gainAt, efficiencyAt, cleared}
+use Rattle.independence.specs.Antenna.{Antenna, floorPlus, looksUp}
 use Rattle.independence.specs.Laws.{Fills, Laws}
 use Rattle.independence.specs.Filling.{callAt, heightAt, rowsOf, cardTable}
 use Rattle.independence.specs.Deck.{Deck, card, Entry, Outcome, verdictOn, tableBy, outcomeOn, deckAfter, run}
 use Rattle.independence.specs.Demand3.{lineAt, outcomeAt, cell, Accepted, carriedAfterRows, carriedAtRow, carriedAfterEntry, carried, CardRules}
 use Rattle.independence.proofs.Rows.{cleared-length, cleared-cell, call-accepted, row-accepted, height-carried, rows-cell, rows-other}
-use Rattle.independence.proofs.Verdicts.{Passes, accepted-passes, height-past}
+use Rattle.independence.proofs.Efficiencies.{rows-efficiency}
+use Rattle.independence.proofs.Verdicts.{Passes, accepted-passes, accepted-finite, height-past}
 
 lower-or-not : (a b : ℕ) → (a < b) ⊎ (b ≤ a)
 lower-or-not a zero = inr zero-le
@@ -26,6 +28,12 @@ lower-or-not (suc a) (suc b) = elim (lower-or-not a b) [ inl l ↦ inl (suc-le-s
 zero-above : T (lt floor (num 0 1))
 unfolding lt neg round
 zero-above = tt
+
+-- a card that a run accepts at the height h: its table is the filling's
+pub record AcceptedCard (A : Antenna) (c : A .Card) (h : Float) (t : List Float) : Type 0 where
+  pub passes : Passes A c h
+  pub finiteHeight : T (finite h)
+  pub table : t ≡ cardTable A c h
 
 module _ (A : Antenna) (L : Laws A) (limit : ℕ) where
   -- ---- an accepted card's filled cell is its call's gain, at the height of the recursion
@@ -51,8 +59,20 @@ module _ (A : Antenna) (L : Laws A) (limit : ℕ) where
       subst (λ (x : ℕ). (cell (cardTable A c h) (gainAt x d) ≡ callAt A c x (carriedAfterRows A c h i) d .gain) × (callAt A c x (carriedAfterRows A c h i) d .refusal ≡ 0)) at
       (filled-row c h i d p (omega arith) k)
 
+  pub filled-efficiency : (c : A .Card) (h : Float) (m : ℕ) → Passes A c h → A .first c ≤ m → m ≤ A .last c
+      → cell (cardTable A c h) (efficiencyAt m) ≡ callAt A c m (carriedAtRow A c h m) 90 .efficiency
+  filled-efficiency c h m p lo hi =
+      let r = L .range c (p .input) in
+      let i = m - A .first c in
+      let n = rowsOf A c in
+      let at : A .first c + i ≡ m = omega arith in
+      let below : i < n = omega (arith, r) in
+      let same = height-carried A L c h i (p .input) (omega arith) (row-accepted A L c h n i (p .calls) below .0) in
+      subst (λ (x : ℕ). cell (cardTable A c h) (efficiencyAt x) ≡ callAt A c x (carriedAfterRows A c h i) 90 .efficiency) at
+      (rows-efficiency A L c h n i cleared (r .0) (omega (arith, r)) cleared-length below ∙ ap (λ (x : Float). callAt A c (A .first c + i) x 90 .efficiency) same)
+
   ground-rule : (c : A .Card) (h : Float) → Passes A c h → T (not (looksUp (A .typeOf c))) → (m : ℕ) → A .first c ≤ m → m ≤ A .last c
-      → cell (cardTable A c h) (gainAt m 0) ≡ lowered (A .efficiencyOf (A .typeOf c) (carriedAtRow A c h m))
+      → cell (cardTable A c h) (gainAt m 0) ≡ floorPlus (A .efficiencyOf (A .typeOf c) (carriedAtRow A c h m))
   unfolding heightAt
   ground-rule c h p type m lo hi =
       let g = filled-cell c h m 0 p lo hi (omega arith) in
@@ -62,7 +82,7 @@ module _ (A : Antenna) (L : Laws A) (limit : ℕ) where
   abbrev Floored : A .Card → Float → ℕ → ℕ → Type 0
   Floored c h m d =
       T (lt floor (cell (cardTable A c h) (gainAt m d)))
-      ⊎ ((A .first c ≤ m) × (m ≤ A .last c) × (cell (cardTable A c h) (gainAt m d) ≡ lowered (callAt A c m (carriedAtRow A c h m) d .efficiency)))
+      ⊎ ((A .first c ≤ m) × (m ≤ A .last c) × (cell (cardTable A c h) (gainAt m d) ≡ floorPlus (callAt A c m (carriedAtRow A c h m) d .efficiency)))
 
   unfilled : (c : A .Card) (h : Float) (m d : ℕ) → Passes A c h → 1 ≤ m → m ≤ 30 → d < 91 → (m < A .first c) ⊎ (A .first c + rowsOf A c ≤ m) → Floored c h m d
   unfilled c h m d p l top k o =
@@ -97,19 +117,20 @@ module _ (A : Antenna) (L : Laws A) (limit : ℕ) where
   table-rules c h p =
       record {
         ground = ground-rule c h p;
-        groundOf8 = λ e m lo hi. let t = type8 (A .typeOf c) (carriedAtRow A c h m) e in ground-rule c h p (t .0) m lo hi ∙ ap lowered (t .1);
+        groundOf8 = λ e m lo hi. let t = type8 (A .typeOf c) (carriedAtRow A c h m) e in ground-rule c h p (t .0) m lo hi ∙ ap floorPlus (t .1);
         everyGain = floor-rule c h p;
       }
 
   -- ---- in a run
-  card-rules : (d : Deck) (e : Entry A) (c : A .Card) → e .line ≡ card c → outcomeOn A limit d e .verdict ≡ 0 → CardRules A c (d .height) (outcomeOn A limit d e .table)
+  card-accepted : (d : Deck) (e : Entry A) (c : A .Card) → e .line ≡ card c → outcomeOn A limit d e .verdict ≡ 0 → AcceptedCard A c (d .height) (outcomeOn A limit d e .table)
   unfolding outcomeOn tableBy
-  card-rules d e c is v =
-      let e′ : Entry A = record { line = card c; table = e .table } in
-      let v′ : verdictOn A limit d e′ ≡ 0 = subst (λ (l : _). verdictOn A limit d (record { line = l; table = e .table }) ≡ 0) is v in
-      subst (λ (t : List Float). CardRules A c (d .height) t)
-      (sym (ap (λ (n : ℕ). tableBy A limit e (d .height) n) v ∙ ap (λ (l : _). tableBy A limit (record { line = l; table = e .table }) (d .height) 0) is))
-      (table-rules c (d .height) (accepted-passes A L limit d c (e .table) v′))
+  card-accepted d e c is v =
+      let v′ : verdictOn A limit d (record { line = card c; table = e .table }) ≡ 0 = subst (λ (l : _). verdictOn A limit d (record { line = l; table = e .table }) ≡ 0) is v in
+      record {
+        passes = accepted-passes A L limit d c (e .table) v′;
+        finiteHeight = accepted-finite A L limit d e v;
+        table = ap (λ (n : ℕ). tableBy A limit e (d .height) n) v ∙ ap (λ (l : _). tableBy A limit (record { line = l; table = e .table }) (d .height) 0) is;
+      }
 
   pub carried-shift : (h : Float) (e : Entry A) (es : List (Entry A)) (o : Outcome) (os : List Outcome) (j : ℕ)
       → carried A (carriedAfterEntry A (e .line) (o .verdict) h) es os j ≡ carried A h (e ∷ es) (o ∷ os) (suc j)
@@ -121,14 +142,21 @@ module _ (A : Antenna) (L : Laws A) (limit : ℕ) where
   unfolding outcomeOn
   height-shift d e = height-past A L limit d e
 
-  pub run-rules : (es : List (Entry A)) (d : Deck) (j : ℕ) (c : A .Card) → Accepted A es (run A limit d es) j c
-      → CardRules A c (carried A (d .height) es (run A limit d es) j) (outcomeAt (run A limit d es) j .table)
+  pub run-accepted : (es : List (Entry A)) (d : Deck) (j : ℕ) (c : A .Card) → Accepted A es (run A limit d es) j c
+      → AcceptedCard A c (carried A (d .height) es (run A limit d es) j) (outcomeAt (run A limit d es) j .table)
   unfolding run carried
-  run-rules [] d j c a = let z : ⊥ = omega (arith, a .verdict) in absurd z
-  run-rules (e ∷ es) d zero c a = card-rules d e c (a .isCard) (a .verdict)
-  run-rules (e ∷ es) d (suc j) c a =
+  run-accepted [] d j c a = let z : ⊥ = omega (arith, a .verdict) in absurd z
+  run-accepted (e ∷ es) d zero c a = card-accepted d e c (a .isCard) (a .verdict)
+  run-accepted (e ∷ es) d (suc j) c a =
       let d′ = deckAfter A limit d e in
       let o = outcomeOn A limit d e in
-      subst (λ (h : Float). CardRules A c h (outcomeAt (run A limit d′ es) j .table))
+      subst (λ (h : Float). AcceptedCard A c h (outcomeAt (run A limit d′ es) j .table))
       (ap (λ (h : Float). carried A h es (run A limit d′ es) j) (height-shift d e) ∙ carried-shift (d .height) e es o (run A limit d′ es) j)
-      (run-rules es d′ j c (record { isCard = a .isCard; verdict = a .verdict }))
+      (run-accepted es d′ j c (record { isCard = a .isCard; verdict = a .verdict }))
+
+  pub run-rules : (es : List (Entry A)) (d : Deck) (j : ℕ) (c : A .Card) → Accepted A es (run A limit d es) j c
+      → CardRules A c (carried A (d .height) es (run A limit d es) j) (outcomeAt (run A limit d es) j .table)
+  run-rules es d j c a =
+      let x = run-accepted es d j c a in
+      let h = carried A (d .height) es (run A limit d es) j in
+      subst (λ (t : List Float). CardRules A c h t) (sym (x .table)) (table-rules c h (x .passes))

@@ -9,6 +9,7 @@ use lib.Dec.{T, eqb, leb, leb→le, not-T, eqb·suc-zero}
 use lib.Ieee.{Float}
 use lib.Ieee.Bits.{is-false}
 use lib.Ieee.Scale.{finite}
+use borrow.Author.Tests.{not-false}
 use Rattle.single.specs.Single.{num}
 use Rattle.limits.specs.Refusals.{firstRefusal}
 use Rattle.table.specs.Table.{gainAt, cleared, isTable}
@@ -69,6 +70,10 @@ module _ (A : Antenna) (L : Laws A) (limit : ℕ) where
   pub accepted-own : (d : Deck) (e : Entry A) → verdictOn A limit d e ≡ 0 → firstRefusal (ownTests A e (d .height)) ≡ 0
   unfolding verdictOn firstRefusal
   accepted-own d e p = passed (not (finite (d .height))) 8 _ (passed (leb limit (d .accepted + d .refused)) 9 _ p .1) .1
+
+  pub accepted-finite : (d : Deck) (e : Entry A) → verdictOn A limit d e ≡ 0 → T (finite (d .height))
+  unfolding verdictOn firstRefusal
+  accepted-finite d e p = subst T (sym (not-false (finite (d .height)) (passed (not (finite (d .height))) 8 _ (passed (leb limit (d .accepted + d .refused)) 9 _ p .1) .0))) tt
 
   pub accepted-passes : (d : Deck) (c : A .Card) (t : List Float) → verdictOn A limit d (record { line = card c; table = t }) ≡ 0 → Passes A c (d .height)
   accepted-passes d c t p = own-passes c t (d .height) (accepted-own d (record { line = card c; table = t }) p)

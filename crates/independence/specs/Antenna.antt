@@ -6,7 +6,8 @@ use lib.Ieee.{Float}
 use Rattle.single.specs.Single.{_⊞_, num}
 use Rattle.finish.specs.Finish.{floor}
 
--- what a gain call answers: its refusal (0 if accepted), the gain, the efficiency and the height left
+-- what a gain call answers: its refusal (0 if accepted), the gain, the efficiency and the height left.
+-- Document 01's term "a cell's efficiency": the one that its own call answers
 pub record Answer : Type 0 where
   pub refusal : ℕ
   pub gain : Float
@@ -14,6 +15,7 @@ pub record Answer : Type 0 where
   pub height : Float
 
 pub record Antenna : Type 1 where
+  -- the term "card" of section 8: type, first and last MHz, off-azimuth, 20 slots and `Model`
   pub Card : Type 0
   -- the type, 1 to 10, and the first and last whole MHz
   pub typeOf : Card → ℕ
@@ -23,14 +25,14 @@ pub record Antenna : Type 1 where
   pub inputRefusal : Card → ℕ
   -- the gain call at MHz, degrees and incoming height
   pub call : Card → ℕ → ℕ → Float → Answer
-  -- the efficiency that `finish` gives a type on the ground at a height
+  -- the term "its type's efficiency": the one that `finish` gives the type in a call on the ground at a height
   pub efficiencyOf : ℕ → Float → Float
   -- the card's height in wavelengths at MHz
   pub wavelengths : Card → ℕ → Float
 
--- -30 plus an efficiency, in single precision
-unfoldable pub lowered : Float → Float
-lowered efficiency = floor ⊞ efficiency
+-- the term "-30 plus an efficiency": their single-precision sum
+unfoldable pub floorPlus : Float → Float
+floorPlus efficiency = floor ⊞ efficiency
 
 -- types 2 and 5 carry their height; types 3 and 4 call a second time, straight up
 abbrev pub carriesHeight : ℕ → Bool

@@ -28,11 +28,11 @@ module _ (A : Antenna) where
 
   module _ (limit : ℕ) where
     -- the refusals that come before the work: of a card, and of a malformed line
-    unfoldable pub screened : Deck → A .Card → List Float → ℕ
-    screened d c t = firstRefusal (stateTests limit d t (found (A .inputRefusal c) ∷ []))
+    unfoldable pub refusalBeforeWork : Deck → A .Card → List Float → ℕ
+    refusalBeforeWork d c t = firstRefusal (stateTests limit d t (found (A .inputRefusal c) ∷ []))
 
-    unfoldable pub screenedMalformed : Deck → List Float → ℕ
-    screenedMalformed d t = firstRefusal (stateTests limit d t (malformedTest ∷ []))
+    unfoldable pub malformedRefusal : Deck → List Float → ℕ
+    malformedRefusal d t = firstRefusal (stateTests limit d t (malformedTest ∷ []))
 
     -- an entry on the deck d: its table becomes t′; the verdict v and the deck d′ are returned
     pub record EntryDone (d : Deck) (e : Entry A) (t′ : List Float) (v : ℕ) (d′ : Deck) : Type 0 where

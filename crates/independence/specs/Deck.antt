@@ -11,12 +11,13 @@ use Rattle.table.specs.Table.{cleared, refusedTable, lengthTest}
 use Rattle.independence.specs.Antenna.{Antenna}
 use Rattle.independence.specs.Filling.{cardHeight, cardRefusal, cardTable}
 
--- ---- the deck
+-- ---- the term "deck": the carried height and the counts of accepted and refused cards
 pub record Deck : Type 0 where
   pub height : Float
   pub accepted : ℕ
   pub refused : ℕ
 
+-- "a fresh one holds zeros"
 abbrev pub fresh : Deck
 fresh = record { height = num 0 1; accepted = 0; refused = 0 }
 
@@ -64,7 +65,7 @@ module _ (A : Antenna) where
   lineHeight (card c) h = cardHeight A c h
   lineHeight malformed h = h
 
--- what is compared of an entry: its verdict and its table as it leaves it
+-- what is compared of an entry: its table as it leaves it, and the term "verdict": the refusal number, 0 if accepted
 pub record Outcome : Type 0 where
   pub verdict : ℕ
   pub table : List Float

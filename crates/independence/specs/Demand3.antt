@@ -11,7 +11,7 @@ use lib.Ieee.{Float, nan, lt}
 use Rattle.single.specs.Single.{num}
 use Rattle.finish.specs.Finish.{floor}
 use Rattle.table.specs.Table.{rowCount, columnCount, gainAt}
-use Rattle.independence.specs.Antenna.{Antenna, lowered, carriesHeight, looksUp, heightLeft}
+use Rattle.independence.specs.Antenna.{Antenna, floorPlus, carriesHeight, looksUp, heightLeft}
 use Rattle.independence.specs.Filling.{callAt, rowsOf}
 use Rattle.independence.specs.Deck.{Line, card, malformed, Entry, Outcome, without}
 
@@ -24,6 +24,10 @@ outcomeAt outcomes j = getD outcomes j (record { verdict = 8; table = [] })
 
 abbrev pub cell : List Float → ℕ → Float
 cell t i = getD t i (num 0 1)
+
+-- the term "ground": 0 degrees. Where the ground gain at m MHz stands
+abbrev pub groundAt : ℕ → ℕ
+groundAt m = gainAt m 0
 
 -- entry j is the card c, and it is accepted
 pub record Accepted (A : Antenna) (entries : List (Entry A)) (outcomes : List Outcome) (j : ℕ) (c : A .Card) : Type 0 where
@@ -42,12 +46,13 @@ pub record NextAccepted (A : Antenna) (entries : List (Entry A)) (outcomes : Lis
   pub accepted : Accepted A entries outcomes j c
   pub between : (n : ℕ) → k ≤ n → n < j → outcomeAt outcomes n .verdict ≢ 0
 
--- "the ground gain in the lowest row of the next accepted card after the struck one, where that is type 2 or 5": cell i of entry j
+-- "the ground gain in the lowest row of the next accepted card after the struck one, where that is type 2 or 5": cell i of entry j.
+-- The lowest row is the first filled one
 pub record MayDiffer (A : Antenna) (entries : List (Entry A)) (outcomes : List Outcome) (k j i : ℕ) : Type 0 where
   pub theCard : A .Card
   pub next : NextAccepted A entries outcomes k j theCard
   pub type : T (carriesHeight (A .typeOf theCard))
-  pub ground : i ≡ gainAt (A .first theCard) 0
+  pub ground : i ≡ groundAt (A .first theCard)
 
 module _ (A : Antenna) where
   -- ---- section 8: the carried height h, by the list and its verdicts alone
@@ -71,17 +76,17 @@ module _ (A : Antenna) where
   carried h entries outcomes zero = h
   carried h entries outcomes (suc j) = carriedAfterEntry (lineAt entries j) (outcomeAt outcomes j .verdict) (carried h entries outcomes j)
 
-  -- ---- the rules of an accepted card c that finds the height h and leaves the table t
+  -- ---- the rules of an accepted card c that finds the height h and leaves the table t. Its filled rows are first to last MHz
   pub record CardRules (c : A .Card) (h : Float) (t : List Float) : Type 0 where
     -- "each ground gain in a filled row outside types 3 and 4 is the single-precision sum of -30 and its type's efficiency (type 8's is zero there).
     -- For types 2 and 5 that is taken at the height left by the last cell of an accepted card before it"
     pub ground : T (not (looksUp (A .typeOf c))) → (m : ℕ) → A .first c ≤ m → m ≤ A .last c
-        → cell t (gainAt m 0) ≡ lowered (A .efficiencyOf (A .typeOf c) (carriedAtRow c h m))
-    pub groundOf8 : A .typeOf c ≡ 8 → (m : ℕ) → A .first c ≤ m → m ≤ A .last c → cell t (gainAt m 0) ≡ lowered (num 0 1)
+        → cell t (groundAt m) ≡ floorPlus (A .efficiencyOf (A .typeOf c) (carriedAtRow c h m))
+    pub groundOf8 : A .typeOf c ≡ 8 → (m : ℕ) → A .first c ≤ m → m ≤ A .last c → cell t (groundAt m) ≡ floorPlus (num 0 1)
     -- "outside types 2, 3 and 4, every gain of an accepted card, where it is a number, is above -30 or equals -30 plus that cell's efficiency"
     pub everyGain : T (not (eqb (A .typeOf c) 2 || looksUp (A .typeOf c))) → (m d : ℕ) → 1 ≤ m → m ≤ rowCount → d < columnCount → cell t (gainAt m d) ≢ nan
         → T (lt floor (cell t (gainAt m d)))
-        ⊎ ((A .first c ≤ m) × (m ≤ A .last c) × (cell t (gainAt m d) ≡ lowered (callAt A c m (carriedAtRow c h m) d .efficiency)))
+        ⊎ ((A .first c ≤ m) × (m ≤ A .last c) × (cell t (gainAt m d) ≡ floorPlus (callAt A c m (carriedAtRow c h m) d .efficiency)))
 
   -- of all accepted cards of a run, which begins at the height 0
   abbrev pub Rules : List (Entry A) → List Outcome → Type 0

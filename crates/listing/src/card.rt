@@ -11,9 +11,9 @@ ghost use Rattle.listing.specs.Card.{LineRun, AcceptedLine, LineListed};
 use crate::session::Session;
 use crate::writing;
 use card_line::Line;
+use deck::CardAnswer;
 use deck::Deck;
 use deck::Fields;
-use deck::Ran;
 
 // From here on a place prints as stars.
 const MOST_LISTED: u32 = 10_000_000;
@@ -33,7 +33,7 @@ fn count(listed: u32) -> u32
     }
 }
 
-fn run_line(deck: Deck, line: Line, table: &mut [f32]) -> Ran
+fn run_line(deck: Deck, line: Line, table: &mut [f32]) -> CardAnswer
     requires { ⌜ length (now table) ≡ tableLength ⌝ }
     ensures { λ r. ⌜ LineRun (stateOf deck) line (now (table .exit)) (r .verdict) (stateOf (r .deck)) ⌝ }
 {
@@ -87,8 +87,8 @@ pub(crate) fn list_line(
     let Session { deck, listed, .. } = session;
     let place = count(listed);
     let card = card_line::read_line(&line[..held]);
-    let ran = run_line(deck, card, table);
-    let Ran { deck, verdict } = ran;
+    let answer = run_line(deck, card, table);
+    let CardAnswer { deck, verdict } = answer;
     let begun = writing::heading(place, card_type(card), verdict, out, at);
     let end = rows(card, verdict, table, out, begun);
     let next = Session {

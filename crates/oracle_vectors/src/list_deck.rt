@@ -8,9 +8,9 @@ use crate::line::is;
 use crate::line::model;
 use crate::line::slots;
 use crate::line::word;
+use deck::CardAnswer;
 use deck::Deck;
 use deck::Fields;
-use deck::Ran;
 use table::COLUMNS;
 use table::GAINS;
 use table::ROWS;
@@ -55,7 +55,7 @@ fn table_length(line: &Line) -> usize
     if n < TABLE_LENGTH { n } else { TABLE_LENGTH }
 }
 
-fn run_entry(line: &Line, deck: Deck, table: &mut [f32]) -> Ran {
+fn run_entry(line: &Line, deck: Deck, table: &mut [f32]) -> CardAnswer {
     if line[0] == b'm' {
         return deck::run_malformed(deck, table);
     }
@@ -63,7 +63,7 @@ fn run_entry(line: &Line, deck: Deck, table: &mut [f32]) -> Ran {
 }
 
 // Verdict, height and counts.
-fn is_answer(line: &Line, answer: Ran) -> bool {
+fn is_answer(line: &Line, answer: CardAnswer) -> bool {
     let deck = answer.deck;
     (word(line, 26) == answer.verdict)
         & is(line, 27, deck.height)

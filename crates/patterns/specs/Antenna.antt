@@ -2,12 +2,17 @@
 use lib.IntN.{ℤ}
 use lib.Ieee.{Float}
 use Rattle.parameters.specs.Length.{lengthOf}
+use Rattle.parameters.specs.declared.length.Length.{Length}
 use Rattle.parameters.specs.declared.model.Model.{Model}
 use Rattle.parameters.specs.declared.params.IoncapParams.{IoncapParams}
 use Rattle.reflection.specs.Angles.{azimuthOf}
 use Rattle.patterns.specs.declared.antenna.Antenna.{Antenna}
 
+-- from the leg and the height as they are read
+abbrev pub antennaWith : ℤ → Float → IoncapParams → Length → Length → Model → Antenna
+antennaWith kop toaz params leg height model =
+    record { kop = kop; params = params; leg = leg; height = height; azimuth = azimuthOf toaz; model = model }
+
 -- leg and height are read by kind. Type 2's `anh` is a gain, read so too, but no pattern of type 2 takes the height
 unfoldable pub antennaOf : ℤ → Float → IoncapParams → Model → Antenna
-antennaOf kop toaz params model =
-    record { kop = kop; params = params; leg = lengthOf (params .anl); height = lengthOf (params .anh); azimuth = azimuthOf toaz; model = model }
+antennaOf kop toaz params model = antennaWith kop toaz params (lengthOf (params .anl)) (lengthOf (params .anh)) model

@@ -1,6 +1,6 @@
 // What a card or a gain call says of its antenna.
 ghost use mathlib.Core.Path.{_≡_};
-ghost use Rattle.patterns.specs.Antenna.{antennaOf};
+ghost use Rattle.patterns.specs.Antenna.{antennaOf, antennaWith};
 use parameters::IoncapParams;
 use parameters::Length;
 use parameters::Model;
@@ -17,11 +17,17 @@ pub struct Antenna {
     pub model: Model,
 }
 
-pub fn antenna_of(kop: i32, toaz: f32, params: IoncapParams, model: Model) -> Antenna
-    ensures { λ r. ⌜ r ≡ antennaOf kop toaz params model ⌝ }
+// The leg and the height as a card has read them.
+pub fn antenna_with(
+    kop: i32,
+    toaz: f32,
+    params: IoncapParams,
+    leg: Length,
+    height: Length,
+    model: Model,
+) -> Antenna
+    ensures { λ r. ⌜ r ≡ antennaWith kop toaz params leg height model ⌝ }
 {
-    let leg = parameters::read_length(params.anl);
-    let height = parameters::read_length(params.anh);
     let azimuth = reflection::azimuth_of(toaz);
     Antenna {
         kop,
@@ -31,4 +37,12 @@ pub fn antenna_of(kop: i32, toaz: f32, params: IoncapParams, model: Model) -> An
         azimuth,
         model,
     }
+}
+
+pub fn antenna_of(kop: i32, toaz: f32, params: IoncapParams, model: Model) -> Antenna
+    ensures { λ r. ⌜ r ≡ antennaOf kop toaz params model ⌝ }
+{
+    let leg = parameters::read_length(params.anl);
+    let height = parameters::read_length(params.anh);
+    antenna_with(kop, toaz, params, leg, height, model)
 }

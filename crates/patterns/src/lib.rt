@@ -4,6 +4,7 @@ mod pattern;
 
 pub use antenna::Antenna;
 pub use antenna::antenna_of;
+pub use antenna::antenna_with;
 pub use pattern::Pattern;
 pub use pattern::PatternAnswer;
 pub use pattern::pattern_of;

@@ -9,6 +9,6 @@ use Rattle.table.specs.Table.{rowCount}
 unfoldable pub isRange : ℤ → ℤ → Bool
 isRange first last = leZ (pos 1) first && leZ first last && leZ last (pos rowCount)
 
--- filled row: from the first to the last MHz of an accepted card
+-- the term "filled row": from the first to the last MHz of an accepted card
 unfoldable pub isFilled : ℤ → ℤ → ℕ → Bool
 isFilled first last m = leZ first (pos m) && leZ (pos m) last

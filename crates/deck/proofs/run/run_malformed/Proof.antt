@@ -1,5 +1,5 @@
 use mathlib.Core.Path.{_∙_}
-use Rattle.independence.proofs.Calls.{screen-room-malformed, entry-malformed}
+use Rattle.independence.proofs.Calls.{room-malformed, entry-malformed}
 use Rattle.deck_state.proofs.Counts.{within}
 use Rattle.deck.specs.Antenna.{theAntenna}
 use Rattle.deck.specs.Run.{countLimit}
@@ -9,7 +9,7 @@ use Rattle.deck.proofs.run.run_malformed.Statement.{statement}
 use Rattle.deck.proofs.run.run_malformed.Tie as tie
 
 returns : tie.Need-returns
-returns c = entry-malformed theAntenna theLaws countLimit _ _ _ _ _ (c .before .before .before .before .before .screen-malformed .ensures) (c .before .before .before .clear-refused .ensures) (c .refused-deck .ensures ∙ within _ _ (λ ne. screen-room-malformed theAntenna theLaws countLimit _ _ _ (c .before .before .before .before .before .screen-malformed .ensures) ne))
+returns c = entry-malformed theAntenna theLaws countLimit _ _ _ _ _ (c .before .before .before .before .before .malformed-refusal .ensures) (c .before .before .before .clear-refused .ensures) (c .refused-deck .ensures ∙ within _ _ (λ ne. room-malformed theAntenna theLaws countLimit _ _ _ (c .before .before .before .before .before .malformed-refusal .ensures) ne))
 
 pub run-malformed-spec : {M : Type 1} → statement M
 run-malformed-spec =

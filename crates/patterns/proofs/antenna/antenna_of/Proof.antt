@@ -1,3 +1,4 @@
+use mathlib.Core.Path.{_∙_}
 use mir.Syntax.{w32}
 use mir.ValLaws.{toZ-ofZ}
 use Rattle.patterns.specs.Antenna.{antennaOf}
@@ -7,7 +8,7 @@ use Rattle.patterns.proofs.antenna.antenna_of.Tie as tie
 
 returns : tie.Need-returns
 unfolding antennaOf
-returns c = rw (toZ-ofZ w32 (c .before .before .before .args .kop) (search needs), ← c .before .before .read-length .ensures, ← c .before .read-length2 .ensures, ← c .azimuth-of .ensures)
+returns c = c .antenna-with .ensures ∙ rw (toZ-ofZ w32 (c .before .before .before .args .kop) (search needs), ← c .before .before .read-length .ensures, ← c .before .read-length2 .ensures)
 
 pub antenna-of-spec : {M : Type 1} → statement M
 antenna-of-spec =

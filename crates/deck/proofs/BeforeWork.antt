@@ -11,7 +11,7 @@ use lib.Ieee.Scale.{finite}
 use Rattle.limits.specs.Refusals.{firstRefusal}
 use Rattle.table.specs.Table.{isTable}
 use Rattle.independence.specs.Deck.{Deck}
-use Rattle.independence.specs.Contracts.{screened, screenedMalformed}
+use Rattle.independence.specs.Contracts.{refusalBeforeWork, malformedRefusal}
 use Rattle.independence.proofs.Calls.{found-last}
 use Rattle.deck_state.specs.DeckState.{countLimit, stateRefusal}
 use Rattle.deck.specs.declared.fields.Fields.{Fields}
@@ -31,18 +31,18 @@ module _ (d : Deck) (t : List Float) where
   abbrev counts : Bool
   counts = leb countLimit (d .accepted + d .refused)
 
-  pub state-screens : (f : Fields) → stateRefusal d t ≢ 0 → screened theAntenna countLimit d f t ≡ stateRefusal d t
-  unfolding screened stateRefusal firstRefusal
-  state-screens f n = first counts (not (finite (d .height))) (not (isTable t)) _ .0 n
+  pub state-refuses : (f : Fields) → stateRefusal d t ≢ 0 → refusalBeforeWork theAntenna countLimit d f t ≡ stateRefusal d t
+  unfolding refusalBeforeWork stateRefusal firstRefusal
+  state-refuses f n = first counts (not (finite (d .height))) (not (isTable t)) _ .0 n
 
-  pub fields-screen : (f : Fields) → stateRefusal d t ≡ 0 → screened theAntenna countLimit d f t ≡ fieldsRefusal f
-  unfolding screened stateRefusal firstRefusal
-  fields-screen f e = first counts (not (finite (d .height))) (not (isTable t)) _ .1 e ∙ found-last (fieldsRefusal f)
+  pub fields-refuse : (f : Fields) → stateRefusal d t ≡ 0 → refusalBeforeWork theAntenna countLimit d f t ≡ fieldsRefusal f
+  unfolding refusalBeforeWork stateRefusal firstRefusal
+  fields-refuse f e = first counts (not (finite (d .height))) (not (isTable t)) _ .1 e ∙ found-last (fieldsRefusal f)
 
-  pub state-screens-malformed : stateRefusal d t ≢ 0 → screenedMalformed theAntenna countLimit d t ≡ stateRefusal d t
-  unfolding screenedMalformed stateRefusal firstRefusal
-  state-screens-malformed n = first counts (not (finite (d .height))) (not (isTable t)) 8 .0 n
+  pub state-refuses-malformed : stateRefusal d t ≢ 0 → malformedRefusal theAntenna countLimit d t ≡ stateRefusal d t
+  unfolding malformedRefusal stateRefusal firstRefusal
+  state-refuses-malformed n = first counts (not (finite (d .height))) (not (isTable t)) 8 .0 n
 
-  pub line-screens : stateRefusal d t ≡ 0 → screenedMalformed theAntenna countLimit d t ≡ 8
-  unfolding screenedMalformed stateRefusal firstRefusal
-  line-screens e = first counts (not (finite (d .height))) (not (isTable t)) 8 .1 e
+  pub line-refuses : stateRefusal d t ≡ 0 → malformedRefusal theAntenna countLimit d t ≡ 8
+  unfolding malformedRefusal stateRefusal firstRefusal
+  line-refuses e = first counts (not (finite (d .height))) (not (isTable t)) 8 .1 e
