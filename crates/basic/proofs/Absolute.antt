@@ -8,6 +8,7 @@ use borrow.Author.Tests.{lt-ltb, le-ltb, ne-eqb}
 use lib.Dec.{T, ltb, leb, eqb}
 use lib.IntN.{ℤ, pos}
 use lib.Ieee.{Float, nan, inf, fin, binary32, up, down, odd, round, neg, add, sub, sum, lt, le, eq, level, fits, ofBits, ofFields}
+use Rattle.single.proofs.Booleans.{holds}
 use Rattle.single.specs.Single.{isNegative}
 use Rattle.single.proofs.Positive.{scaled-pos}
 use Rattle.single.proofs.Value.{plain, ofBits-is, zero-exp}
@@ -19,9 +20,9 @@ pub absolute-minus : (x : Float) → isNegative x ≡ true → absolute x ≡ ne
 unfolding absolute neg
 absolute-minus nan h = refl
 absolute-minus (inf true) h = refl
-absolute-minus (inf false) h = absurd (subst T (sym h) tt)
+absolute-minus (inf false) h = absurd (holds h)
 absolute-minus (fin true m e) h = refl
-absolute-minus (fin false m e) h = absurd (subst T (sym h) tt)
+absolute-minus (fin false m e) h = absurd (holds h)
 
 pub absolute-plus : (x : Float) → isNegative x ≡ false → absolute x ≡ x
 unfolding absolute
@@ -51,9 +52,9 @@ some m e = simp (lt-ltb 0 (suc m * up e * 1 + 0 * down e) (let p : 0 < suc m * u
 
 pub below-clears : (x : Float) → T (fits binary32 x) → le x (ofBits binary32 0) ≡ true → sub binary32 (ofBits binary32 0) x ≡ absolute x
 unfolding le lt eq ofBits absolute
-below-clears nan f h = absurd (subst T (sym h) tt)
+below-clears nan f h = absurd (holds h)
 below-clears (inf true) f h = unfold sub in unfold add in unfold neg in refl
-below-clears (inf false) f h = absurd (subst T (sym h) tt)
+below-clears (inf false) f h = absurd (holds h)
 below-clears (fin s zero e) f h = subst (λ (z : ℤ). sub binary32 (fin false 0 (pos 0)) (fin s 0 z) ≡ fin false 0 z) (sym (zero-exp binary32 s e f)) (zero-clear s)
 below-clears (fin true (suc m) e) f h = zero-minus true m e f
 below-clears (fin false (suc m) e) f h = absurd (subst T (sym h ∙ ap (λ (b : Bool). b || (eqb (suc m * up e * 1) (0 * down e) && true)) (not-below m e) ∙ ap (λ (b : Bool). b && true) (not-level m e)) tt)

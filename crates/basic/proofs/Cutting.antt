@@ -9,7 +9,7 @@ use lib.Dec.{T, ltb}
 use lib.IntN.{pos, negsuc, negℤ}
 use lib.Ieee.{Float, nan, inf, fin, up, down, lt, le, eq, toSigned}
 use lib.Ieee.Fits.{down-pos}
-use Rattle.single.proofs.Booleans.{or-left}
+use Rattle.single.proofs.Booleans.{holds, or-left}
 use Rattle.single.proofs.Magnitude.{Mag, mag-of, or-i}
 use Rattle.basic.specs.Basic.{cutToward}
 use Rattle.basic.proofs.WholePart.{whole-below}
@@ -26,7 +26,7 @@ none = fin false 0 (pos 0)
 
 pub range-mag : (x : Float) → le low x ≡ true → lt x high ≡ true → Mag (2 ^ 31) x
 unfolding le
-range-mag x h g = mag-of x 31 (subst T (sym h) tt) (or-i (lt x high) (eq x high) (subst T (sym g) tt))
+range-mag x h g = mag-of x 31 (holds h) (or-i (lt x high) (eq x high) (holds g))
 
 min-low : (w a b : ℕ) → w ≤ a → w ≤ b → min w a ≡ min w b
 min-low w a b h g = omega arith
@@ -51,8 +51,8 @@ some a d D = lt-ltb 0 (a + 1 * 2 ^ 31 * d) (omega arith)
 
 pub cut-high : (x : Float) → le low x ≡ true → lt x high ≡ false → pos 2147483647 ≡ cutToward x
 unfolding cutToward toSigned le lt eq
-cut-high nan h g = absurd (subst T (sym h) tt)
-cut-high (inf true) h g = absurd (subst T (sym h) tt)
+cut-high nan h g = absurd (holds h)
+cut-high (inf true) h g = absurd (holds h)
 cut-high (inf false) h g = refl
 cut-high (fin true m e) h g = absurd (true≢false (sym (some (m * up e * 1) (down e) (down-pos e)) ∙ g))
 cut-high (fin false m e) h g =
@@ -62,9 +62,9 @@ cut-high (fin false m e) h g =
 
 pub cut-low : (x : Float) → le low x ≡ false → lt x none ≡ true → negsuc 2147483647 ≡ cutToward x
 unfolding cutToward toSigned le lt eq
-cut-low nan h g = absurd (subst T (sym g) tt)
+cut-low nan h g = absurd (holds g)
 cut-low (inf true) h g = refl
-cut-low (inf false) h g = absurd (subst T (sym g) tt)
+cut-low (inf false) h g = absurd (holds g)
 cut-low (fin true m e) h g =
     let l : 1 * 2 ^ 31 * down e ≤ m * up e * 1 = ltb-false (m * up e * 1) (1 * 2 ^ 31 * down e) (or-left _ _ h) in
     let w : 2147483648 ≤ m * up e / down e = le-div-iff-mul-le {k = down e} {x = 2147483648} {y = m * up e} (down-pos e) .1 (omega arith) in

@@ -3,22 +3,20 @@ use mathlib.Core.Path.{_≡_, refl, sym, ap, subst, _∙_}
 use mathlib.Core.Bool.{Bool, true, false, not, cond}
 use Prim.Native.Nat.{ℕ, zero, suc, _+_, _-_, _*_, _/_, _%_, _^_, _≤_, _<_, min}
 use native.Mathlib.Omega.{arith}
-use native.Mathlib.Nat.{zero-mul, mul-assoc, mul-right-comm, mul-le-mul, le-refl, le-trans, le-of-suc-le-suc, div-eq-of-lt, lt-of-le-of-lt, le-of-mul-le-mul-right, lt-of-lt-of-le, lt-of-not-le, not-le-of-lt, zero-lt-suc, suc-mul, div-lt-iff-lt-mul}
-use borrow.Author.Tests.{lt-ltb, le-ltb, ltb-false}
+use native.Mathlib.Nat.{zero-mul, mul-assoc, mul-right-comm, mul-le-mul, le-refl, le-trans, le-of-suc-le-suc, div-eq-of-lt, lt-of-le-of-lt, le-of-mul-le-mul-right, lt-of-lt-of-le, lt-of-not-le, not-le-of-lt, suc-mul, div-lt-iff-lt-mul}
+use borrow.Author.Tests.{le-ltb, ltb-false}
 use lib.Dec.{T, leb, ltb, eqb, lit≤, lit<, leb→le, nleb→lt, lt→ltb, le→leb}
-use lib.IntN.{pos, negsuc, negℤ, _-ℤ_}
+use lib.IntN.{pos, negℤ}
 use lib.Pow.{pow-pos, pow-add, pow-mono}
 use lib.Ieee.{Float, nan, inf, fin, binary32, up, down, lt, ofBits, toSigned, inFloat}
-use mir.Syntax.{w64}
-use mir.Val.{SFits, toZ}
-use mir.ValLaws.{toZ-ofZ}
 use lib.Ieee.Exact.{HasValue}
 use lib.Ieee.Fits.{down-pos}
 use lib.Ieee.Nearest.{div-same}
+use Rattle.single.specs.Single.{signed}
 use Rattle.single.proofs.Value.{bits-normal, bits-low, bits-top}
 use Rattle.single.proofs.Magnitude.{Mag}
 use Rattle.basic.specs.Basic.{absolute, cutToward}
-use Rattle.basic.specs.WholePart.{wholePart, signed}
+use Rattle.basic.specs.WholePart.{wholePart}
 
 pub absolute-mag : (x : Float) (k : ℕ) → Mag k x → Mag k (absolute x)
 unfolding absolute
@@ -118,19 +116,7 @@ cut-parts (fin true n e) m =
     let w : n * up e / down e ≤ 2097152 = whole-below (fin true n e) (2 ^ 21) m in
     ap (λ (k : ℕ). negℤ (pos k)) (min-left (n * up e / down e) (2 ^ 31) (le-trans w (lit≤ tt))) ∙ negative (n * up e) (down e) (down-pos e)
 
--- ---- n as the machine has it
-pub read-back : (k : ℕ) → k ≤ 2 ^ 21 → toZ w64 k ≡ pos k
-read-back k h = toZ-ofZ w64 (pos k) (record { sfits = let z : k < 9223372036854775808 = omega arith in z })
-
-pub zero-minus-int : (k : ℕ) → pos 0 -ℤ pos k ≡ negℤ (pos k)
-zero-minus-int zero = refl
-zero-minus-int (suc k) = let e : suc k - 1 ≡ k = omega arith in simp (lt-ltb 0 (suc k) (zero-lt-suc k)) (ap negsuc e)
-
-pub signed-fits : (s : Bool) (k : ℕ) → k ≤ 2 ^ 21 → SFits w64 (signed s k)
-signed-fits true zero h = record { sfits = lit< tt }
-signed-fits true (suc k) h = record { sfits = let z : k < 9223372036854775808 = omega arith in z }
-signed-fits false k h = record { sfits = let z : k < 9223372036854775808 = omega arith in z }
-
+-- ---- n as a float
 pub signed-float : (s : Bool) (k : ℕ) → k ≤ 2 ^ 21 → T (inFloat binary32 (signed s k))
 unfolding inFloat
 signed-float true zero h = tt

@@ -2,14 +2,14 @@
 use mathlib.Core.Path.{_≡_, refl, sym, ap, subst, _∙_}
 use mathlib.Core.List.{List}
 use Prim.Native.Nat.{ℕ, _≤_, _<_}
-use native.Mathlib.Omega.{arith}
 use native.Mathlib.Nat.{min-le-left, pow-le-pow-right, zero-lt-suc, lt-of-lt-of-le}
 use lib.Dec.{lit≤}
-use lib.IntN.{ℤ, pos, negsuc, natAbs}
+use lib.IntN.{ℤ, natAbs}
 use lib.ListN.{length, drop, length-take}
 use mir.Syntax.{w32, w64}
 use mir.Val.{SFits, toZ, ofZ}
 use mir.ValLaws.{toZ-ofZ}
+use Rattle.single.proofs.Integers.{within}
 use Rattle.output.specs.declared.reading.Integer.{Integer}
 use Rattle.output.specs.declared.reading.Integer.the-variants.{Number, Malformed}
 use Rattle.output.specs.Integer.{integerValue}
@@ -30,10 +30,6 @@ integer-below l a = go (integerAt l a) refl
     go Malformed e = lit≤ tt
 
 -- ---- read as an i64, taken as an i32
-within-i32 : (z : ℤ) → natAbs z < 1000 → SFits w32 z
-within-i32 (pos n) h = record { sfits = omega arith }
-within-i32 (negsuc n) h = record { sfits = omega arith }
-
 -- as the code hands it on
 abbrev pub narrowed : ℤ → ℤ
 narrowed z = toZ w32 (ofZ w32 (toZ w64 (ofZ w64 z)))
@@ -43,7 +39,7 @@ module _ (l : List ℕ) (a : ℕ) (z : ℤ) (e : integerAt l a ≡ Number z) whe
   as-i64 = toZ-ofZ w64 z (integer-fits (columns a 3 l) z e)
 
   pub i32-fits : SFits w32 (toZ w64 (ofZ w64 z))
-  i32-fits = subst (λ (y : ℤ). SFits w32 y) (sym as-i64) (within-i32 z (number-below l a z e))
+  i32-fits = subst (λ (y : ℤ). SFits w32 y) (sym as-i64) (within w32 z (lt-of-lt-of-le (number-below l a z e) (lit≤ tt)))
 
   pub narrowed-is : narrowed z ≡ integerValue (integerAt l a)
   narrowed-is = toZ-ofZ w32 (toZ w64 (ofZ w64 z)) i32-fits ∙ as-i64 ∙ sym (ap integerValue e)

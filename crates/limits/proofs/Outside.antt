@@ -1,6 +1,6 @@
 -- The loop over the numbers: what is left of them decides. Assumes nothing.
 use Prim.Native.Nat.{ℕ, _+_, _*_, _<_, _≤_}
-use mathlib.Core.Path.{_≡_, refl, sym, subst, _∙_}
+use mathlib.Core.Path.{_≡_, refl, subst, _∙_}
 use mathlib.Core.Bool.{true, false}
 use mathlib.Core.List.{List}
 use native.Mathlib.Numerals.{add-one}
@@ -10,6 +10,7 @@ use lib.Dec.{T}
 use borrow.Author.Tests.{not-false}
 use lib.Ieee.{Float, nan, inf, fin, le, lt, eq, round, up, down}
 use native.Mathlib.Nat.{mul-one}
+use Rattle.single.proofs.Booleans.{holds}
 use Rattle.single.specs.Single.{num}
 use Rattle.single.proofs.Magnitude.{Mag, or-le}
 use Rattle.elementary.specs.Basic.{absolute}
@@ -31,5 +32,5 @@ unfolding outside absolute round le lt eq
 within-mag nan h = absurd (subst T h tt)
 within-mag (inf s) h = absurd (subst T h tt)
 within-mag (fin s m e) h =
-    let t : m * up e * 1 ≤ 1000 * down e = or-le (m * up e * 1) (1000 * down e) (subst T (sym (not-false (le (fin false m e) (num 1000 1)) h)) tt) in
+    let t : m * up e * 1 ≤ 1000 * down e = or-le (m * up e * 1) (1000 * down e) (holds (not-false (le (fin false m e) (num 1000 1)) h)) in
     rw (mul-one (m * up e)) at t

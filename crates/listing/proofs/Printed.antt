@@ -1,6 +1,6 @@
 -- The printed lines: their lengths, and their writing. Assumes nothing.
-use mathlib.Core.Path.{_≡_, refl, sym, ap, subst, _∙_}
-use mathlib.Core.List.{List, [], _∷_, _++_}
+use mathlib.Core.Path.{_≡_, refl, sym, ap, subst}
+use mathlib.Core.List.{List, [], _++_}
 use Prim.Native.Nat.{ℕ, zero, suc, _+_, _-_, _*_, _^_, _≤_, _<_}
 use native.Mathlib.Omega.{arith}
 use native.Mathlib.Numerals.{add-one}
@@ -28,17 +28,14 @@ handed z w f x = same x (ap (λ (y : ℤ). integerField y w) (toZ-ofZ w64 z f))
 pub unsigned : {d : List ℕ} {a : ℕ} {e : List ℕ} {b : ℕ} (n w : ℕ) → n < 2 ^ 63 → Appended d a (integerField (toZ w64 n) w) e b → Appended d a (integerField (pos n) w) e b
 unsigned n w f x = same x (ap (λ (z : ℤ). integerField z w) (toZ-pos w64 n f))
 
-back32 : (z : ℤ) → SFits w32 z → toZ w32 (ofZ w32 z) ≡ z
-back32 z f = toZ-ofZ w32 z f
-
 wider : (z : ℤ) → SFits w32 z → SFits w64 z
 wider z f = record { sfits = lt-of-lt-of-le (f .sfits) (lit≤ tt) }
 
 pub fits32 : (z : ℤ) → SFits w32 z → SFits w64 (toZ w32 (ofZ w32 z))
-fits32 z f = subst (λ (y : ℤ). SFits w64 y) (sym (back32 z f)) (wider z f)
+fits32 z f = subst (λ (y : ℤ). SFits w64 y) (sym (toZ-ofZ w32 z f)) (wider z f)
 
 pub signed : {d : List ℕ} {a : ℕ} {e : List ℕ} {b : ℕ} (z : ℤ) (w : ℕ) → SFits w32 z → Appended d a (integerField (toZ w64 (ofZ w64 (toZ w32 (ofZ w32 z)))) w) e b → Appended d a (integerField z w) e b
-signed z w f x = handed z w (wider z f) (same x (ap (λ (y : ℤ). integerField (toZ w64 (ofZ w64 y)) w) (back32 z f)))
+signed z w f x = handed z w (wider z f) (same x (ap (λ (y : ℤ). integerField (toZ w64 (ofZ w64 y)) w) (toZ-ofZ w32 z f)))
 
 -- a row as the code reads it out of the table
 pub row : {d : List ℕ} {a : ℕ} {e : List ℕ} {b : ℕ} (t : List Float) (m : ℕ)

@@ -1,6 +1,6 @@
 -- When the buffers of a call are ready. Assumes nothing.
 use mathlib.Core.Path.{_≡_, refl, sym, ap, _∙_}
-use mathlib.Core.Bool.{Bool, true, false, not, _&&_}
+use mathlib.Core.Bool.{Bool, true, false, not, _&&_, and-false}
 use mathlib.Core.List.{List}
 use Prim.Native.Nat.{ℕ, _+_, _-_, _≤_, _<_}
 use native.Mathlib.Omega.{arith}
@@ -12,10 +12,6 @@ use Rattle.single.proofs.Booleans.{and-left, and-right}
 use Rattle.table.specs.Table.{isTable}
 use Rattle.listing.specs.Ready.{Ready}
 use Rattle.listing.specs.Session.{isReady}
-
-and-false : (b : Bool) → b && false ≡ false
-and-false true = refl
-and-false false = refl
 
 module _ (line : List ℕ) (table : List Float) (out : List ℕ) (at : ℕ) where
   pub short-line : (length line ≡ 120 → ⊥) → false ≡ isReady line table out at

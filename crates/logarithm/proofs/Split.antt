@@ -14,6 +14,7 @@ use lib.Ieee.Fits.{round-fits}
 use lib.Ieee.Exact.{HasValue, round-exact}
 use lib.Ieee.Order.{le-of-values}
 use lib.Ieee.Positive.{num, den, den-pos, positive, between, own-value, values-of-le, value→cross}
+use Rattle.single.proofs.Booleans.{holds}
 use Rattle.single.specs.Single.{unitsOf}
 use Rattle.single.proofs.Digits.{size-shift, minus-shift}
 use Rattle.single.proofs.Exact.{whole, own-units, digits-small, round-value}
@@ -67,7 +68,7 @@ minus-down j h =
 module _ (y m : Float) (e : ℤ) (n : ℕ) (P : 0 < n) (v : HasValue y false n (2 ^ 149)) (s : Split y m e) where
   m-positive : T (positive m)
   unfolding round
-  m-positive = between leastDigits m digitsEnd tt tt (s .least) (unfold le in or-i (lt m digitsEnd) _ (subst T (sym (s .below)) tt))
+  m-positive = between leastDigits m digitsEnd tt tt (s .least) (unfold le in or-i (lt m digitsEnd) _ (holds (s .below)))
 
   key : num m * up e * 2 ^ 149 ≡ n * (den m * down e)
   key = value-cross y (num m * up e) (den m * down e) n (2 ^ 149) (s .exact) v

@@ -11,11 +11,12 @@ use lib.Ieee.{Float, nan, inf, fin, binary32, up, down, lt, eq, neg, ofBits}
 use lib.Ieee.Fits.{down-pos}
 use mir.Syntax.{w64}
 use mir.Val.{SFits, toZ, ofZ}
+use Rattle.single.specs.Single.{signed}
 use Rattle.single.proofs.Booleans.{and-left}
 use Rattle.single.proofs.Positive.{level-zero}
-use Rattle.output.specs.Hundredths.{halfUp, sizeOf, hundredthsOf, signed}
+use Rattle.output.specs.Hundredths.{halfUp, sizeOf, hundredthsOf}
 use Rattle.output.specs.declared.rounding.Hundredths.the-variants.{NotANumber, Over, Whole}
-use Rattle.output.proofs.Signs.{as-i64, negated-fits, negated-i64}
+use Rattle.single.proofs.Integers.{as-i64, negated-fits, negated-i64}
 
 below-i64 : (n : ℕ) → n ≤ 100 * 2 ^ 56 → n < 2 ^ 63
 below-i64 n h = omega arith

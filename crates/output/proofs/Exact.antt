@@ -1,6 +1,6 @@
 -- 200 times a positive f32 is exact in f64, and half of one more than its whole part is 100 times it to the nearest. Assumes nothing.
 use mathlib.Core.Path.{_≡_, sym, ap, subst, _∙_}
-use mathlib.Core.Bool.{Bool, true, false, not, _&&_, true≢false}
+use mathlib.Core.Bool.{true, false, not, _&&_, true≢false}
 use Prim.Native.Nat.{ℕ, zero, suc, _+_, _-_, _*_, _/_, _%_, _^_, _≤_, _<_}
 use native.Mathlib.Omega.{arith}
 use native.Mathlib.Nat.{le-div-iff-mul-le, le-refl, lt-suc-self, suc-mul, mul-one, one-mul, mul-assoc, mul-comm, mul-left-comm, mul-right-comm, mul-pos, mul-lt-mul-of-pos-right, lt-of-lt-of-le, le-trans, le-of-eq, lt-of-mul-lt-mul-right, lt-of-not-le, not-le-of-lt, div-lt-iff-lt-mul, div-div-eq-div-mul, add-div-right, min-eq-left, mul-mul-mul-comm}
@@ -9,7 +9,7 @@ use lib.Dec.{T, leb, ltb, eqb, lit<, lit≤, leb→le, ltb→lt, lt→ltb}
 use lib.IntN.{ℤ, pos, negsuc}
 use lib.Pow.{pow-pos, pow-add, pow-mono, shl-lt}
 use lib.Ieee.{Float, nan, inf, fin, binary32, binary64, up, down, lt, mul, fits, round, ofBits, toUnsigned, isNan}
-use lib.Ieee.Fits.{and-l, and-r, down-pos, fits-widens}
+use lib.Ieee.Fits.{and-i, and-l, and-r, down-pos, fits-widens}
 use lib.Ieee.Nearest.{div-same}
 use lib.Ieee.Exact.{HasValue, round-exact}
 use Rattle.output.specs.Hundredths.{halfUp, sizeOf}
@@ -123,8 +123,4 @@ pub widens : (x : Float) → T (fits binary32 x) → lt (ofBits binary32 0) x �
 unfolding lt ofBits isNan
 widens nan f p = absurd (true≢false (sym p))
 widens (inf s) f p = unfold fits in tt
-widens (fin s m e) f p = both (fits binary64 (fin s m e)) (fits-widens (fin s m e) f)
-  where
-    both : (b : Bool) → T b → T (b && true)
-    both true t = tt
-    both false t = t
+widens (fin s m e) f p = and-i (fits binary64 (fin s m e)) true (fits-widens (fin s m e) f) tt

@@ -19,7 +19,7 @@ use Rattle.output.specs.declared.reading.Decimal.the-variants.{Value, Ma
 use Rattle.output.specs.Digits.{spacesOf, digitsOf, unspaced, signedOf}
 use Rattle.output.specs.Integer.{integer, integerOf}
 use Rattle.output.specs.Decimal.{tenThousandths, pointed, decimalOf}
-use Rattle.output.proofs.Signs.{as-i64-fits, as-i64, negated-fits, negated-i64}
+use Rattle.single.proofs.Integers.{as-i64-fits, as-i64, negated-fits, negated-i64}
 use Rattle.output.proofs.Steps.{to-end}
 use Rattle.output.proofs.Sizes.{digits-below, signed-below, bound}
 

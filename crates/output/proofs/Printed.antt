@@ -17,8 +17,9 @@ use mir.ValLaws.{toZ-ofZ}
 use Rattle.output.specs.declared.rounding.Hundredths.{Hundredths}
 use Rattle.output.specs.declared.rounding.Hundredths.the-variants.{NotANumber, Over, Whole}
 use Rattle.output.specs.Field.{justified, integerField}
-use Rattle.output.specs.Hundredths.{halfUp, signed, hundredfold, hundredthsOf, nanText, printed, hundredthsField}
-use Rattle.output.proofs.Signs.{within-i64, signed-size}
+use Rattle.output.specs.Hundredths.{halfUp, hundredfold, hundredthsOf, nanText, printed, hundredthsField}
+use Rattle.single.specs.Single.{signed}
+use Rattle.single.proofs.Integers.{within, signed-size}
 use Rattle.output.proofs.Field.{field-length, justified-length, stars}
 
 -- ---- NaN
@@ -62,7 +63,7 @@ whole-bound (fin s m e) z h = go (ltb (m * up e) (2 ^ 56 * down e)) refl h
         omega (arith, ap natAbs (same (signed s (halfUp (100 * (m * up e)) (down e))) z h), signed-size s (halfUp (100 * (m * up e)) (down e)))
 
 pub whole-fits : (x : Float) (z : ℤ) → hundredthsOf x ≡ Whole z → SFits w64 z
-whole-fits x z h = within-i64 z (let b = whole-bound x z h in omega arith)
+whole-fits x z h = within w64 z (let b = whole-bound x z h in omega arith)
 
 -- ---- the three cases
 pub prints-whole : (x : Float) (r : Hundredths) (z : ℤ) (w : ℕ) (l : List ℕ) → r ≡ hundredthsOf x → r ≡ Whole z → l ≡ integerField (toZ w64 (ofZ w64 z)) w → l ≡ hundredthsField x w

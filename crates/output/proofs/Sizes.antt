@@ -17,7 +17,7 @@ use Rattle.output.specs.declared.reading.Signed.the-variants.{Read, Unre
 use Rattle.output.specs.declared.reading.Integer.the-variants.{Number}
 use Rattle.output.specs.Digits.{spacesOf, readOn, digitsOf, unspaced, signedOf}
 use Rattle.output.specs.Integer.{integer, integerOf}
-use Rattle.output.proofs.Signs.{within-i64, signed-size}
+use Rattle.single.proofs.Integers.{within, signed-size}
 
 -- a number that was read is below k
 abbrev pub Below : Signed → ℕ → Type 0
@@ -100,4 +100,4 @@ integer-within l z e = number-below (signedOf 18 l) z (10 ^ length l) e (signed-
 -- so its answer is an i64's
 pub integer-fits : (l : List ℕ) (z : ℤ) → integerOf l ≡ Number z → SFits w64 z
 unfolding integerOf
-integer-fits l z e = within-i64 z (lt-of-lt-of-le (number-below (signedOf 18 l) z (10 ^ 18) e (signed-below 18 l)) (lit≤ tt))
+integer-fits l z e = within w64 z (lt-of-lt-of-le (number-below (signedOf 18 l) z (10 ^ 18) e (signed-below 18 l)) (lit≤ tt))

@@ -1,11 +1,12 @@
 -- Document 01 section 10, hundredths: "nearest to the f32's exact value, halves away from zero". Definitions only.
 use Prim.Native.Nat.{ℕ, _+_, _*_, _/_, _^_}
-use mathlib.Core.Bool.{Bool, true, false, cond}
+use mathlib.Core.Bool.{cond}
 use mathlib.Core.List.{List, [], _∷_}
 use lib.Dec.{ltb}
-use lib.IntN.{ℤ, pos, negℤ}
+use lib.IntN.{ℤ}
 use lib.ListN.{replicate}
 use lib.Ieee.{Float, nan, inf, fin, up, down}
+use Rattle.single.specs.Single.{signed}
 use Rattle.output.specs.declared.rounding.Hundredths.{Hundredths}
 use Rattle.output.specs.declared.rounding.Hundredths.the-variants.{NotANumber, Over, Whole}
 use Rattle.output.specs.Field.{justified, integerField}
@@ -14,16 +15,11 @@ use Rattle.output.specs.Field.{justified, integerField}
 abbrev pub halfUp : ℕ → ℕ → ℕ
 halfUp a b = (2 * a + b) / (2 * b)
 
--- so that halves go away from zero, the sign is put on after the rounding
-abbrev pub signed : Bool → ℕ → ℤ
-signed true n = negℤ (pos n)
-signed false n = pos n
-
 -- 100 times the exact value m * 2 ^ e, which is m * up e / down e, to the nearest whole number
 abbrev pub hundredfold : ℕ → ℤ → ℕ
 hundredfold m e = halfUp (100 * (m * up e)) (down e)
 
--- Over: an infinity, or from 2 ^ 56 on in magnitude, where the hundredths have 19 digits or more and may not fit an i64
+-- the sign is put on after the rounding, so that halves go away from zero. Over: an infinity, or from 2 ^ 56 on in magnitude, where the hundredths have 19 digits or more and may not fit an i64
 unfoldable pub hundredthsOf : Float → Hundredths
 hundredthsOf nan = NotANumber
 hundredthsOf (inf s) = Over

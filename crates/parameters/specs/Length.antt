@@ -6,6 +6,7 @@ use Rattle.elementary.specs.Basic.{absolute}
 use Rattle.parameters.specs.declared.length.Length.{Length}
 use Rattle.parameters.specs.declared.length.Length.the-variants.{Metres, Wavelengths}
 use Rattle.parameters.specs.declared.length.LegInWaves.{LegInWaves}
+use Rattle.parameters.specs.declared.length.PhaseInWaves.{PhaseInWaves}
 use Rattle.parameters.specs.declared.length.HeightInWaves.{HeightInWaves}
 use Rattle.parameters.specs.declared.length.MonopoleInWaves.{MonopoleInWaves}
 
@@ -18,20 +19,19 @@ unfoldable pub legOf : Length → Float → LegInWaves
 legOf (Metres el) wave = record { fac = num 31416 10000 ⊠ el ⊘ wave; el1 = el ⊘ wave }
 legOf (Wavelengths el1) wave = record { fac = num 31416 10000 ⊠ el1; el1 = el1 }
 
-abbrev pub heightInWaves : Float → HeightInWaves
-heightInWaves h1 = record { hwave = num 62832 10000 ⊠ h1; h1 = h1 }
+abbrev pub inWaves : Float → Float → PhaseInWaves
+inWaves turn x = record { phase = turn ⊠ x; waves = x }
 
--- the height: hwave and h1. Metres not above 0 count as wavelengths, without their sign
+-- a height of either kind, with `turn` to the wavelength. Metres not above 0 count as wavelengths, without their sign
+unfoldable pub phaseOf : Float → Length → Float → PhaseInWaves
+phaseOf turn (Metres h) wave =
+    cond (lt (num 0 1) h) (record { phase = turn ⊠ h ⊘ wave; waves = h ⊘ wave }) (inWaves turn (absolute h))
+phaseOf turn (Wavelengths x) wave = inWaves turn x
+
+-- the height: hwave and h1
 unfoldable pub heightOf : Length → Float → HeightInWaves
-heightOf (Metres h) wave =
-    cond (lt (num 0 1) h) (record { hwave = num 62832 10000 ⊠ h ⊘ wave; h1 = h ⊘ wave }) (heightInWaves (absolute h))
-heightOf (Wavelengths h1) wave = heightInWaves h1
+heightOf length wave = let p = phaseOf (num 62832 10000) length wave in record { hwave = p .phase; h1 = p .waves }
 
-abbrev pub monopoleInWaves : Float → MonopoleInWaves
-monopoleInWaves x = record { a = x ⊠ num 6283185 1000000; x = x }
-
--- the height of types 2 and 5, which is their leg: a and x
+-- the height of types 2 and 5, which is their leg: a and x. The Rust multiplies wavelengths the other way round, which is the same product: proofs/Signed.antt
 unfoldable pub monopoleOf : Length → Float → MonopoleInWaves
-monopoleOf (Metres h) wave =
-    cond (lt (num 0 1) h) (record { a = num 6283185 1000000 ⊠ h ⊘ wave; x = h ⊘ wave }) (monopoleInWaves (absolute h))
-monopoleOf (Wavelengths x) wave = monopoleInWaves x
+monopoleOf length wave = let p = phaseOf (num 6283185 1000000) length wave in record { a = p .phase; x = p .waves }

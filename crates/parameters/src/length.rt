@@ -1,6 +1,6 @@
 // Document 01 section 8: a length is in metres or in wavelengths, said by its kind.
 ghost use mathlib.Core.Path.{_≡_};
-ghost use Rattle.parameters.specs.Length.{lengthOf, legOf, heightOf, monopoleOf};
+ghost use Rattle.parameters.specs.Length.{lengthOf, legOf, phaseOf, heightOf, monopoleOf};
 
 pub enum Length {
     Metres(f32),
@@ -11,6 +11,12 @@ pub enum Length {
 pub struct LegInWaves {
     pub fac: f32,
     pub el1: f32,
+}
+
+// A height's phase and its wavelengths.
+pub struct PhaseInWaves {
+    pub phase: f32,
+    pub waves: f32,
 }
 
 // A height's phase `hwave`, 6.2832 to the wavelength, and its wavelengths `h1`.
@@ -50,44 +56,47 @@ pub fn leg_in_waves(length: Length, wave: f32) -> LegInWaves
     }
 }
 
-pub fn height_in_waves(length: Length, wave: f32) -> HeightInWaves
-    ensures { λ r. ⌜ r ≡ heightOf length wave ⌝ }
+// Metres not above 0 count as wavelengths, without their sign.
+fn phase_in_waves(turn: f32, length: Length, wave: f32) -> PhaseInWaves
+    ensures { λ r. ⌜ r ≡ phaseOf turn length wave ⌝ }
 {
     match length {
         Length::Metres(h) => {
             if h > 0.0 {
-                return HeightInWaves {
-                    hwave: 6.2832 * h / wave,
-                    h1: h / wave,
+                return PhaseInWaves {
+                    phase: turn * h / wave,
+                    waves: h / wave,
                 };
             }
-            let h1 = elementary::abs(h);
-            HeightInWaves {
-                hwave: 6.2832 * h1,
-                h1,
+            let waves = elementary::abs(h);
+            PhaseInWaves {
+                phase: turn * waves,
+                waves,
             }
         }
-        Length::Wavelengths(h1) => HeightInWaves {
-            hwave: 6.2832 * h1,
-            h1,
+        Length::Wavelengths(waves) => PhaseInWaves {
+            phase: turn * waves,
+            waves,
         },
+    }
+}
+
+pub fn height_in_waves(length: Length, wave: f32) -> HeightInWaves
+    ensures { λ r. ⌜ r ≡ heightOf length wave ⌝ }
+{
+    let p = phase_in_waves(6.2832, length, wave);
+    HeightInWaves {
+        hwave: p.phase,
+        h1: p.waves,
     }
 }
 
 pub fn monopole_in_waves(length: Length, wave: f32) -> MonopoleInWaves
     ensures { λ r. ⌜ r ≡ monopoleOf length wave ⌝ }
 {
-    match length {
-        Length::Metres(h) => {
-            if h > 0.0 {
-                return MonopoleInWaves {
-                    a: 6.283185 * h / wave,
-                    x: h / wave,
-                };
-            }
-            let x = elementary::abs(h);
-            MonopoleInWaves { a: x * 6.283185, x }
-        }
-        Length::Wavelengths(x) => MonopoleInWaves { a: x * 6.283185, x },
+    let p = phase_in_waves(6.283185, length, wave);
+    MonopoleInWaves {
+        a: p.phase,
+        x: p.waves,
     }
 }

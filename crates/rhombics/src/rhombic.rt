@@ -17,18 +17,10 @@ fn with_image(c: f32, psi: f32, hwave: f32, q: f32) -> f32
 pub fn rhombic_rain(legs: Legs, e: Elevation, ground: Ground) -> f32
     ensures { λ r. ⌜ r ≡ rhombicOf legs e ground ⌝ }
 {
-    let Legs {
-        sb,
-        cb,
-        srhi,
-        hwave,
-        ..
-    } = legs;
-    let Elevation { t, q, r, .. } = e;
-    let Ground { ch, cv, psih, psiv } = ground;
     let factor = elfac(legs, e);
-    let brk = cb - srhi * t;
-    let horizontal = with_image(ch, psih, hwave, q);
-    let vertical = with_image(cv, psiv, hwave, q);
-    3.2 * (factor * factor) * (brk * brk * horizontal + sb * sb * vertical * r)
+    let brk = legs.cb - legs.srhi * e.t;
+    let horizontal = with_image(ground.ch, ground.psih, legs.hwave, e.q);
+    let vertical = with_image(ground.cv, ground.psiv, legs.hwave, e.q);
+    let sb = legs.sb;
+    3.2 * (factor * factor) * (brk * brk * horizontal + sb * sb * vertical * e.r)
 }

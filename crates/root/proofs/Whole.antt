@@ -4,6 +4,8 @@ use mathlib.Core.Bool.{Bool, true, false, not, cond}
 use Prim.Native.Nat.{ℕ, zero, suc, _+_, _-_, _*_, _/_, _^_, _≤_, _<_, compare, Ordering, Ordering·lt, Ordering·eq, Ordering·gt}
 use native.Mathlib.Omega.{arith}
 use native.Mathlib.Nat.{mul-le-mul, mul-lt-mul-of-pos-right, lt-of-le-of-lt, lt-of-not-le, not-le-of-lt, pow-succ'}
+use mir.Val.{Fits}
+use mir.Syntax.{w64}
 use lib.Dec.{T, leb, leb→le, nleb→lt}
 use lib.Ieee.{size, nearest}
 use lib.Ieee.Digits.{size-lt}
@@ -54,6 +56,12 @@ pow-four (suc k) = let e : 4 ^ suc k ≡ 4 * 4 ^ k = pow-succ' 4 k in let f : 2 
 pub isqrt-is : (n : ℕ) → IsRoot n (isqrt n)
 unfolding isqrt
 isqrt-is n = rootBy-is (size n) n (let h : n < 2 ^ size n = size-lt n in let i : 2 ^ size n ≤ 4 ^ size n = pow-four (size n) in omega arith)
+
+pub square-le : (r : ℕ) → r ≤ 33554432 → r * r ≤ 1125899906842624
+square-le r h = mul-le-mul h h
+
+pub square-fits : (r : ℕ) → r ≤ 33554432 → Fits w64 (r * r)
+square-fits r h = let s : r * r ≤ 1125899906842624 = square-le r h in omega arith
 
 pub square-lt : (a b : ℕ) → a * a < b * b → a < b
 square-lt a b h = lt-of-not-le (λ (g : b ≤ a). not-le-of-lt h (mul-le-mul g g))

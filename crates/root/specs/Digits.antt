@@ -1,9 +1,14 @@
 -- The root's digits as the code finds them. Definitions only, for contracts of private functions.
-use Prim.Native.Nat.{ℕ, _+_, _*_, _/_, _%_, compare}
+use Prim.Native.Nat.{ℕ, _+_, _*_, _/_, _%_, _≤_, compare}
 use mathlib.Core.Bool.{cond}
 use lib.Dec.{eqb}
 use lib.Ieee.{nearest}
 use Rattle.root.specs.Root.{isqrt}
+
+-- what a guess at the root of m becomes downwards: a number whose square is not above m
+pub record Lowered (m guess r : ℕ) : Type 0 where
+  pub low : r * r ≤ m
+  pub near : r ≤ guess
 
 -- the root of m, rounded to a whole number
 unfoldable pub rootNear : ℕ → ℕ

@@ -3,7 +3,7 @@ ghost use mathlib.Core.Path.{_≡_};
 ghost use Prim.Native.Nat.{ℕ, _+_, _-_, _*_, _/_, _%_, _^_, _<_, _≤_};
 ghost use Rattle.single.proofs.Positive.{normalUnits};
 ghost use Rattle.root.specs.Root.{IsRoot, rootUnits, root};
-ghost use Rattle.root.specs.Digits.{rootNear, radicandOf};
+ghost use Rattle.root.specs.Digits.{Lowered, rootNear, radicandOf};
 
 // A guess at the 24 digits of the root of the f32 with the pattern b, in f64: a reciprocal root from
 // the pattern, a step of Newton's, and a parabola near to 1 / root. Its pattern less the exponent that
@@ -26,15 +26,24 @@ fn guess(b: u32) -> u64
     }
 }
 
-// The largest r with r * r <= m, from a number near it.
-fn isqrt(m: u64, start: u64) -> u64
-    requires { ⌜ (m < 2 ^ 48) × (start < 33554432) ⌝ }
-    ensures { λ r. ⌜ IsRoot m r ⌝ }
+// The guess, or the nearest number below it whose square is not above m.
+fn lowered(m: u64, start: u64) -> u64
+    requires { ⌜ start < 33554432 ⌝ }
+    ensures { λ r. ⌜ Lowered m start r ⌝ }
 {
     let mut r = start;
     while m < r * r {
         r = r - 1;
     }
+    r
+}
+
+// The largest r with r * r <= m, from a number near it.
+fn isqrt(m: u64, start: u64) -> u64
+    requires { ⌜ (m < 2 ^ 48) × (start < 33554432) ⌝ }
+    ensures { λ r. ⌜ IsRoot m r ⌝ }
+{
+    let mut r = lowered(m, start);
     while (r + 1) * (r + 1) <= m {
         r = r + 1;
     }

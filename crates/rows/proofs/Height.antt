@@ -16,7 +16,7 @@ use Rattle.elementary.specs.Basic.{absolute}
 use Rattle.limits.specs.Tests.{outside}
 use Rattle.limits.proofs.Outside.{within-mag}
 use Rattle.parameters.specs.Params.{isType}
-use Rattle.parameters.specs.Length.{lengthOf, monopoleOf, monopoleInWaves}
+use Rattle.parameters.specs.Length.{lengthOf, inWaves, phaseOf, monopoleOf}
 use Rattle.parameters.specs.declared.length.Length.the-variants.{Metres, Wavelengths}
 use Rattle.reflection.specs.Angles.{waveOf}
 use Rattle.patterns.specs.Pattern.{patternOf}
@@ -61,10 +61,10 @@ in-waves : (v wave : Float) → Mag 1000 v → AtLeast (2 ^ 3) wave → T (finit
 in-waves v wave m w = mag-finite (2 ^ 7) (v ⊘ wave) (div-mag v wave 1000 (2 ^ 3) 7 (unfold round in refl) (lit≤ tt) m w (lit≤ tt))
 
 metres-finite : (v wave : Float) → Mag 1000 v → AtLeast (2 ^ 3) wave → T (finite (monopoleOf (Metres v) wave .x))
-unfolding monopoleOf
+unfolding monopoleOf phaseOf
 metres-finite v wave m w = go (lt (num 0 1) v)
   where
-    go : (b : Bool) → T (finite (cond b (record { a = num 6283185 1000000 ⊠ v ⊘ wave; x = v ⊘ wave }) (monopoleInWaves (absolute v)) .x))
+    go : (b : Bool) → T (finite (cond b (record { phase = num 6283185 1000000 ⊠ v ⊘ wave; waves = v ⊘ wave }) (inWaves (num 6283185 1000000) (absolute v)) .waves))
     go true = in-waves v wave m w
     go false = mag-finite 1000 (absolute v) (absolute-mag 1000 v m)
 
@@ -73,7 +73,7 @@ unfolding lengthOf
 length-finite v wave m w = go (lt v (num 0 1))
   where
     go : (b : Bool) → T (finite (monopoleOf (cond b (Wavelengths (neg v)) (Metres v)) wave .x))
-    go true = unfold monopoleOf in mag-finite 1000 (neg v) (neg-mag v 1000 m)
+    go true = unfold monopoleOf in unfold phaseOf in mag-finite 1000 (neg v) (neg-mag v 1000 m)
     go false = metres-finite v wave m w
 
 pub height-finite : (kop : ℤ) (v fmc : Float) → outside v ≡ false → T (le (num 1 1) fmc) → T (le fmc (num 30 1)) → T (finite (heightFor kop (lengthOf v) (waveOf fmc)))

@@ -1,6 +1,10 @@
--- What a conjunction that is true and a disjunction that is false tell of their parts. Assumes nothing.
-use mathlib.Core.Path.{_≡_, refl, sym}
+-- A test that is true holds; what a conjunction that is true and a disjunction that is false tell of their parts. Assumes nothing.
+use mathlib.Core.Path.{_≡_, refl, sym, subst}
 use mathlib.Core.Bool.{Bool, true, false, _&&_, _||_, true≢false}
+use lib.Dec.{T}
+
+pub holds : {b : Bool} → b ≡ true → T b
+holds e = subst T (sym e) tt
 
 pub and-left : (a b : Bool) → (a && b) ≡ true → a ≡ true
 and-left true b e = refl

@@ -8,7 +8,7 @@ use native.Mathlib.Nat.{add-zero, eq-or-lt-of-le, mul-one, mul-pos, not-suc-le-z
 use lib.IntN.{ℤ, pos}
 use lib.Dec.{T, ltb, eqb, eqb-refl, ltb→lt, lt→ltb, nltb→le, not-T, T-not}
 use lib.Ieee.{Float, nan, inf, fin, Format, binary32, up, down, le, lt, eq, neg, add, sum, round, fits}
-use lib.Ieee.Fits.{down-pos, up-pos}
+use lib.Ieee.Fits.{and-i, down-pos, up-pos}
 use lib.Ieee.Bits.{is-true, is-false}
 use Rattle.single.specs.Single.{_⊞_, num}
 use Rattle.single.proofs.Exact.{round-own}
@@ -23,14 +23,10 @@ or-no-right : (a b : Bool) → T (not (a || b)) → T (not b)
 or-no-right true b t = absurd t
 or-no-right false b t = t
 
-and-true : (c : Bool) → T c → T (c && true)
-and-true true h = tt
-and-true false h = h
-
 less : (a b : ℕ) → T (not (ltb b a || (eqb a b && true))) → T (ltb a b)
 less a b t =
     elim (eq-or-lt-of-le (nltb→le b a (or-no-left (ltb b a) (eqb a b && true) t))) [
-      | inl e ↦ absurd (T-not (eqb a b && true) (or-no-right (ltb b a) (eqb a b && true) t) (subst (λ (x : ℕ). T (eqb a x && true)) e (and-true (eqb a a) (eqb-refl a))))
+      | inl e ↦ absurd (T-not (eqb a b && true) (or-no-right (ltb b a) (eqb a b && true) t) (subst (λ (x : ℕ). T (eqb a x && true)) e (and-i (eqb a a) true (eqb-refl a) tt)))
       | inr q ↦ lt→ltb a b q
     ]
 

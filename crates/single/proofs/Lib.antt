@@ -1,4 +1,5 @@
 pub mod Booleans
+pub mod Integers
 pub mod Value
 pub mod Sign
 pub mod Order

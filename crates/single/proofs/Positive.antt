@@ -13,6 +13,7 @@ use lib.Ieee.Bits.{ofBits-toBits}
 use lib.Ieee.Fits.{and-l, down-pos, up-pos, mul-fits}
 use lib.Ieee.Exact.{HasValue, round-exact}
 use lib.Ieee.Scale.{round-same}
+use Rattle.single.proofs.Booleans.{holds}
 use Rattle.single.specs.Single.{isNegative, onPositive}
 use Rattle.single.proofs.Sign.{sign-bit}
 use Rattle.single.proofs.Value.{value-same, bits-normal, bits-low, bits-top}
@@ -20,7 +21,7 @@ use Rattle.single.proofs.Value.{value-same, bits-normal, bits-low, bits
 -- what `y > 0.0` tells
 pub positive-no-nan : (y : Float) → lt (ofBits binary32 0) y ≡ true → T (not (isNan y))
 unfolding lt isNan ofBits
-positive-no-nan nan h = absurd (subst T (sym h) tt)
+positive-no-nan nan h = absurd (holds h)
 positive-no-nan (inf s) h = tt
 positive-no-nan (fin s m e) h = tt
 
@@ -28,9 +29,9 @@ pub positive-sign : (y : Float) → lt (ofBits binary32 0) y ≡ true → isNega
 unfolding lt ofBits
 positive-sign nan h = refl
 positive-sign (inf false) h = refl
-positive-sign (inf true) h = absurd (subst T (sym h) tt)
+positive-sign (inf true) h = absurd (holds h)
 positive-sign (fin false m e) h = refl
-positive-sign (fin true m e) h = absurd (subst T (sym h) tt)
+positive-sign (fin true m e) h = absurd (holds h)
 
 value-sign : (y : Float) (a c : ℕ) → HasValue y false a c → isNegative y ≡ false
 value-sign nan a c v = absurd v
@@ -175,10 +176,10 @@ module _ (z : Float) (f : ℕ → Float) where
 
   pub on-zero : (y : Float) → eq y (ofBits binary32 0) ≡ true → onPositive z f y ≡ z
   unfolding eq ofBits onPositive
-  on-zero nan h = absurd (subst T (sym h) tt)
-  on-zero (inf s) h = absurd (subst T (sym h) tt)
+  on-zero nan h = absurd (holds h)
+  on-zero (inf s) h = absurd (holds h)
   on-zero (fin s zero e) h = refl
-  on-zero (fin s (suc m) e) h = absurd (lt-irrefl 0 (subst (λ (x : ℕ). 0 < x) (eqb→eq (suc m * up e * 1) (0 * down e) (and-l (eqb (suc m * up e * 1) (0 * down e)) (Bool·beq s false || eqb (suc m * up e * 1) 0) (subst T (sym h) tt)) ∙ zero-mul (down e)) (scaled-pos m e)))
+  on-zero (fin s (suc m) e) h = absurd (lt-irrefl 0 (subst (λ (x : ℕ). 0 < x) (eqb→eq (suc m * up e * 1) (0 * down e) (and-l (eqb (suc m * up e * 1) (0 * down e)) (Bool·beq s false || eqb (suc m * up e * 1) 0) (holds h)) ∙ zero-mul (down e)) (scaled-pos m e)))
 
   -- what code writes for NaN is 0.0 / 0.0
   pub on-other : (y : Float) → lt (ofBits binary32 0) y ≡ false → eq y (ofBits binary32 0) ≡ false → div binary32 (ofBits binary32 0) (ofBits binary32 0) ≡ onPositive z f y

@@ -9,6 +9,7 @@ use lib.Dec.{T, leb, eqb}
 use lib.Ieee.{Float, Format, nan, inf, fin, binary32, top, ones, hid, nanBits, odd, ofFields, ofBits, toBits, fits, isNan, eq, ne}
 use lib.Ieee.Bits.{ofBits-toBits, nanBits-above, nanBits-is}
 use lib.Ieee.Compare.{differs-from-itself}
+use Rattle.single.proofs.Booleans.{holds}
 use Rattle.single.specs.Single.{isNegative}
 
 pub odd-sign : (d : ℕ) (s : Bool) (q k l : ℕ) → isNegative (odd d s q k l) ≡ s
@@ -36,7 +37,7 @@ sign-bit v f n = bits-sign (toBits binary32 v) (subst (λ (w : Float). T (not (i
 -- x == x: no NaN. Otherwise NaN
 pub no-nan : (x : Float) → eq x x ≡ true → T (not (isNan x))
 unfolding eq isNan
-no-nan nan h = subst T (sym h) tt
+no-nan nan h = holds h
 no-nan (inf s) h = tt
 no-nan (fin s m e) h = tt
 
@@ -60,5 +61,5 @@ nan-bits n h = is-nan-of (ofBits binary32 n) (sym (nanBits-is binary32 n) ∙ na
   where
     is-nan-of : (x : Float) → isNan x ≡ true → x ≡ nan
     is-nan-of nan e = refl
-    is-nan-of (inf s) e = absurd (unfold isNan in subst T (sym e) tt)
-    is-nan-of (fin s m k) e = absurd (unfold isNan in subst T (sym e) tt)
+    is-nan-of (inf s) e = absurd (unfold isNan in holds e)
+    is-nan-of (fin s m k) e = absurd (unfold isNan in holds e)

@@ -9,7 +9,7 @@ use lib.IntN.{ℤ, pos, negsuc}
 use lib.Pow.{pow-pos, pow-add}
 use lib.Ieee.{Float, nan, inf, fin, Format, binary32, prec, emax, low, up, down, fits, round, units, odd, neg, ofBits, ofFields}
 use lib.Ieee.Bits.{is-false, cond-no}
-use lib.Ieee.Fits.{and-l, down-pos, round-is, round-fits}
+use lib.Ieee.Fits.{and-l, up-pos, down-pos, round-is, round-fits}
 use lib.Ieee.Exact.{HasValue, odd-sign, round-exact}
 
 -- ---- one value, one float
@@ -50,9 +50,6 @@ level p d q g a c C v w =
     eq-of-mul-eq-mul-right c C (p * g) (q * d)
     (mul-right-comm p g c ∙ ap (λ (x : ℕ). x * g) v ∙ mul-right-comm a d g ∙ ap (λ (x : ℕ). x * d) (sym w) ∙ mul-right-comm q c d)
 
-no-suc : (n : ℕ) → suc n ≡ 0 → ⊥
-no-suc n h = omega arith
-
 same-exp : (m n : ℕ) (e g : ℤ) → m % 2 ≡ 1 → n % 2 ≡ 1 → m * up e * down g ≡ n * up g * down e → (m ≡ n) × (e ≡ g)
 same-exp m n (pos a) (pos b) o p h = let r = odd-pow m n a b o p (sym (mul-one (m * 2 ^ a)) ∙ h ∙ mul-one (n * 2 ^ b)) in (r .0, ap pos (r .1))
 same-exp m n (negsuc a) (negsuc b) o p h =
@@ -67,10 +64,6 @@ same-exp m n (negsuc a) (pos b) o p h =
 
 vanish : (m u g : ℕ) → 0 < u → 0 < g → suc m * u * g ≡ 0 → ⊥
 vanish m u g U G h = lt-irrefl 0 (subst (λ (x : ℕ). 0 < x) h (mul-pos (mul-pos (zero-lt-suc m) U) G))
-
-up-pos : (e : ℤ) → 0 < up e
-up-pos (pos k) = pow-pos k
-up-pos (negsuc k) = zero-lt-suc 0
 
 nothing : (u d : ℕ) → zero * u * d ≡ 0
 nothing u d = ap (λ (y : ℕ). y * d) (zero-mul u) ∙ zero-mul d

@@ -1,7 +1,7 @@
 -- Single precision, IEEE 754's binary32: the notation of every definition. Definitions only.
 use Prim.Native.Nat.{ℕ, zero, suc, _*_, _/_, _^_}
 use mathlib.Core.Bool.{Bool, true, false, cond}
-use lib.IntN.{ℤ, pos}
+use lib.IntN.{ℤ, pos, negℤ}
 use lib.Ieee.{Float, nan, inf, fin, binary32, round, up, down}
 use lib.Ieee as Ieee
 
@@ -29,6 +29,11 @@ num a b = round binary32 false a b
 -- a whole number as an f32
 abbrev pub whole : ℕ → Float
 whole n = Ieee.ofInt binary32 (pos n)
+
+-- a whole number from its sign and its magnitude
+abbrev pub signed : Bool → ℕ → ℤ
+signed true n = negℤ (pos n)
+signed false n = pos n
 
 -- the sign bit: of a zero too. The one NaN has none
 abbrev pub isNegative : Float → Bool

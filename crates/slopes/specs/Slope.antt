@@ -16,6 +16,10 @@ use Rattle.slopes.specs.declared.slope.Slope.{Slope}
 unfoldable pub htOf : Float → Float → Float
 htOf aex1 wave = cond (lt aex1 (num 0 1)) (absolute aex1) (aex1 ⊘ wave)
 
+-- what the other end rises above the feed, over a leg
+unfoldable pub riseOf : Float → Float → Float → Float → Float
+riseOf aex1 wave h1 el1 = (htOf aex1 wave ⊟ h1) ⊘ el1
+
 -- from the slope's sine g on. The Rust's rhi is the angle phi in radians, and then this arcsine
 unfoldable pub slopeOf : Float → Float → Float → Float → Float → Slope
 slopeOf g fac hwave phi reta =
@@ -35,10 +39,9 @@ slopeOf g fac hwave phi reta =
 
 unfoldable pub veeSlope : Float → Float → LegInWaves → HeightInWaves → Float → Azimuth → Slope
 veeSlope aex1 wave leg height phi azimuth =
-    let g = (htOf aex1 wave ⊟ height .h1) ⊘ leg .el1 in
-    slopeOf g (leg .fac) (height .hwave) phi (azimuth .reta)
+    slopeOf (riseOf aex1 wave (height .h1) (leg .el1)) (leg .fac) (height .hwave) phi (azimuth .reta)
 
+-- from end to end lie two legs
 unfoldable pub rhombicSlope : Float → Float → LegInWaves → HeightInWaves → Float → Azimuth → Slope
 rhombicSlope aex1 wave leg height phi azimuth =
-    let g = (htOf aex1 wave ⊟ height .h1) ⊘ leg .el1 ⊠ num 5 10 in
-    slopeOf g (leg .fac) (height .hwave) phi (azimuth .reta)
+    slopeOf (riseOf aex1 wave (height .h1) (leg .el1) ⊠ num 5 10) (leg .fac) (height .hwave) phi (azimuth .reta)

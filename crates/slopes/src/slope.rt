@@ -1,6 +1,6 @@
 // What holds for a whole row: the slope of the legs and their angles to the off-azimuth.
 ghost use mathlib.Core.Path.{_≡_};
-ghost use Rattle.slopes.specs.Slope.{htOf, slopeOf, veeSlope, rhombicSlope};
+ghost use Rattle.slopes.specs.Slope.{htOf, riseOf, slopeOf, veeSlope, rhombicSlope};
 use elementary::SineCosine;
 use parameters::HeightInWaves;
 use parameters::LegInWaves;
@@ -28,6 +28,13 @@ fn ht_of(aex1: f32, wave: f32) -> f32
         return elementary::abs(aex1);
     }
     aex1 / wave
+}
+
+// How far the other end stands above the feed, in legs.
+fn rise_of(aex1: f32, wave: f32, h1: f32, el1: f32) -> f32
+    ensures { λ r. ⌜ r ≡ riseOf aex1 wave h1 el1 ⌝ }
+{
+    (ht_of(aex1, wave) - h1) / el1
 }
 
 // The legs' angle in their own sloping plane is the Rust's second `rhi`.
@@ -62,10 +69,8 @@ pub fn vee_slope(
 ) -> Slope
     ensures { λ r. ⌜ r ≡ veeSlope aex1 wave leg height phi azimuth ⌝ }
 {
-    let LegInWaves { fac, el1 } = leg;
-    let HeightInWaves { hwave, h1 } = height;
-    let g = (ht_of(aex1, wave) - h1) / el1;
-    slope_of(g, fac, hwave, phi, azimuth.reta)
+    let g = rise_of(aex1, wave, height.h1, leg.el1);
+    slope_of(g, leg.fac, height.hwave, phi, azimuth.reta)
 }
 
 // From end to end lie two legs.
@@ -79,8 +84,6 @@ pub fn rhombic_slope(
 ) -> Slope
     ensures { λ r. ⌜ r ≡ rhombicSlope aex1 wave leg height phi azimuth ⌝ }
 {
-    let LegInWaves { fac, el1 } = leg;
-    let HeightInWaves { hwave, h1 } = height;
-    let g = (ht_of(aex1, wave) - h1) / el1 * 0.5;
-    slope_of(g, fac, hwave, phi, azimuth.reta)
+    let g = rise_of(aex1, wave, height.h1, leg.el1) * 0.5;
+    slope_of(g, leg.fac, height.hwave, phi, azimuth.reta)
 }

@@ -44,34 +44,22 @@ fn field_of(x: f32, y: f32, c: f32, cosw: f32, sinw: f32, legs: LegPair, images:
 pub fn sloping_rhombic_rain(slope: Slope, elevation: Elevation, ground: Ground) -> f32
     ensures { λ r. ⌜ r ≡ slopingRhombicRain slope elevation ground ⌝ }
 {
-    let Slope {
-        pp,
-        sisum,
-        sidif,
-        fac2,
-        hwave2,
-        ..
-    } = slope;
-    let Ground { ch, cv, psih, psiv } = ground;
     let d = direction_of(slope, elevation);
-    let Direction {
-        copsi5,
-        copsi6,
-        copsi7,
-        copsi8,
-        u1,
-        u2,
-        u3,
-        u4,
-    } = d;
-    let legs = leg_pair_of(fac2, u1, u2);
-    let images = leg_pair_of(fac2, u3, u4);
-    let x7 = copsi8 / u2 - copsi7 / u1;
-    let y7 = copsi5 / u3 - copsi6 / u4;
-    let x8 = sidif / u1 - sisum / u2;
-    let y8 = sidif / u3 - sisum / u4;
-    let w = reflected_of(psih + PI, psiv - PI, hwave2, elevation.q);
-    let v = field_of(x7, y7, cv, w.w3, w.w4, legs, images);
-    let h = field_of(x8, y8, ch, w.w1, w.w2, legs, images);
+    let Direction { u1, u2, u3, u4, .. } = d;
+    let legs = leg_pair_of(slope.fac2, u1, u2);
+    let images = leg_pair_of(slope.fac2, u3, u4);
+    let x7 = d.copsi8 / u2 - d.copsi7 / u1;
+    let y7 = d.copsi5 / u3 - d.copsi6 / u4;
+    let x8 = slope.sidif / u1 - slope.sisum / u2;
+    let y8 = slope.sidif / u3 - slope.sisum / u4;
+    let w = reflected_of(
+        ground.psih + PI,
+        ground.psiv - PI,
+        slope.hwave2,
+        elevation.q,
+    );
+    let v = field_of(x7, y7, ground.cv, w.w3, w.w4, legs, images);
+    let h = field_of(x8, y8, ground.ch, w.w1, w.w2, legs, images);
+    let pp = slope.pp;
     0.05 * (v.re * v.re + v.im * v.im + pp * pp * (h.re * h.re + h.im * h.im))
 }

@@ -44,84 +44,48 @@ fn leg_phases_of(fac2: f32, d: Direction) -> LegPhases
 fn horizontal_of(slope: Slope, d: Direction, p: LegPhases, w: ReflectedPhase, ch: f32) -> Field
     ensures { λ r. ⌜ r ≡ horizontalOf slope d p w ch ⌝ }
 {
-    let Slope { sisum, sidif, .. } = slope;
     let Direction { u1, u2, u3, u4, .. } = d;
-    let LegPhases {
-        z1,
-        z2,
-        z3,
-        z4,
-        v1,
-        v2,
-        v3,
-        v4,
-    } = p;
     let ReflectedPhase { w1, w2, .. } = w;
-    let y1 = u1 * sisum;
-    let y2 = u2 * sidif;
-    let y3 = u3 * sisum;
-    let y4 = u4 * sidif;
+    let y1 = u1 * slope.sisum;
+    let y2 = u2 * slope.sidif;
+    let y3 = u3 * slope.sisum;
+    let y4 = u4 * slope.sidif;
     let image = ch / (u3 * u4);
     Field {
-        re: (y2 * z1 - y1 * z2) / (u1 * u2)
-            - image * (y4 * (w1 * z3 + w2 * v3) - y3 * (w1 * z4 + w2 * v4)),
-        im: (-y2 * v1 + y1 * v2) / (u1 * u2)
-            - image * (y4 * (w2 * z3 - w1 * v3) - y3 * (w2 * z4 - w1 * v4)),
+        re: (y2 * p.z1 - y1 * p.z2) / (u1 * u2)
+            - image * (y4 * (w1 * p.z3 + w2 * p.v3) - y3 * (w1 * p.z4 + w2 * p.v4)),
+        im: (-y2 * p.v1 + y1 * p.v2) / (u1 * u2)
+            - image * (y4 * (w2 * p.z3 - w1 * p.v3) - y3 * (w2 * p.z4 - w1 * p.v4)),
     }
 }
 
 fn vertical_of(d: Direction, p: LegPhases, w: ReflectedPhase, cv: f32) -> Field
     ensures { λ r. ⌜ r ≡ verticalOf d p w cv ⌝ }
 {
-    let Direction {
-        copsi5,
-        copsi6,
-        copsi7,
-        copsi8,
-        u1,
-        u2,
-        u3,
-        u4,
-    } = d;
-    let LegPhases {
-        z1,
-        z2,
-        z3,
-        z4,
-        v1,
-        v2,
-        v3,
-        v4,
-    } = p;
+    let Direction { u1, u2, u3, u4, .. } = d;
     let ReflectedPhase { w3, w4, .. } = w;
-    let uc27 = u2 * copsi7;
-    let uc18 = u1 * copsi8;
-    let uc45 = u4 * copsi5;
-    let uc36 = u3 * copsi6;
+    let uc27 = u2 * d.copsi7;
+    let uc18 = u1 * d.copsi8;
+    let uc45 = u4 * d.copsi5;
+    let uc36 = u3 * d.copsi6;
     let image = cv / (u3 * u4);
     Field {
-        re: (z1 * uc27 - z2 * uc18) / (u1 * u2)
-            - image * (w3 * (z3 * uc45 - z4 * uc36) + w4 * (v3 * uc45 - v4 * uc36)),
-        im: (-v1 * uc27 + v2 * uc18) / (u1 * u2)
-            - image * (w3 * (-v3 * uc45 + v4 * uc36) + w4 * (z3 * uc45 - z4 * uc36)),
+        re: (p.z1 * uc27 - p.z2 * uc18) / (u1 * u2)
+            - image * (w3 * (p.z3 * uc45 - p.z4 * uc36) + w4 * (p.v3 * uc45 - p.v4 * uc36)),
+        im: (-p.v1 * uc27 + p.v2 * uc18) / (u1 * u2)
+            - image * (w3 * (-p.v3 * uc45 + p.v4 * uc36) + w4 * (p.z3 * uc45 - p.z4 * uc36)),
     }
 }
 
 pub fn vee_rain(slope: Slope, elevation: Elevation, ground: Ground) -> f32
     ensures { λ r. ⌜ r ≡ veeRain slope elevation ground ⌝ }
 {
-    let Slope {
-        pp,
-        fac2,
-        hwave2,
-        ..
-    } = slope;
-    let Ground { ch, cv, psih, psiv } = ground;
     let d = direction_of(slope, elevation);
-    let w = reflected_of(psih, psiv, hwave2, elevation.q);
-    let p = leg_phases_of(fac2, d);
-    let h = horizontal_of(slope, d, p, w, ch);
-    let v = vertical_of(d, p, w, cv);
+    let w = reflected_of(ground.psih, ground.psiv, slope.hwave2, elevation.q);
+    let p = leg_phases_of(slope.fac2, d);
+    let h = horizontal_of(slope, d, p, w, ground.ch);
+    let v = vertical_of(d, p, w, ground.cv);
+    let pp = slope.pp;
     let rain = 0.025 * (pp * pp * (h.re * h.re + h.im * h.im) + v.re * v.re + v.im * v.im);
     rain * 2.0
 }

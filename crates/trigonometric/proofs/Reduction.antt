@@ -10,9 +10,10 @@ use lib.Dec.{T, lit≤}
 use lib.IntN.{pos}
 use lib.Ieee.{Float, nan, fin, binary32, round, neg, div, ofBits, ofInt, lt, le}
 use lib.Ieee.Fits.{and-l, and-r}
-use Rattle.single.specs.Single.{_⊞_, _⊟_, _⊠_, num}
+use Rattle.single.proofs.Booleans.{holds}
+use Rattle.single.specs.Single.{_⊞_, _⊟_, _⊠_, num, signed}
 use Rattle.single.proofs.Magnitude.{Mag, mag-of, mul-mag, add-mag, sub-mag}
-use Rattle.basic.specs.WholePart.{wholePart, signed}
+use Rattle.basic.specs.WholePart.{wholePart}
 use Rattle.basic.proofs.WholePart.{cut-parts}
 use Rattle.trigonometric.specs.Trigonometric.{twoOverPi, inRange, argument, turns, rest, reduced, quadrantOf, byQuadrant, sinePart, cosinePart, sineAt, cosineAt, sine, cosine}
 use Rattle.trigonometric.specs.Turns.{turnsFloat, quadrantBy}
@@ -32,7 +33,7 @@ module _ (x : Float) (h : inRange x ≡ true) where
   range-mag : Mag (2 ^ 20) x
   unfolding inRange round neg
   range-mag =
-      let t : T (inRange x) = subst T (sym h) tt in
+      let t : T (inRange x) = holds h in
       mag-of x 20 (and-l (le (fin true 1 (pos 20)) x) (le x (fin false 1 (pos 20))) t) (and-r (le (fin true 1 (pos 20)) x) (le x (fin false 1 (pos 20))) t)
 
   product-mag : Mag (2 ^ 20) (x ⊠ twoOverPi)
@@ -92,21 +93,13 @@ sine-odd (suc (suc (suc zero))) s c v l h e = ap neg e
 sine-odd (suc (suc (suc (suc q)))) s c v l h e = absurd (let z : suc (suc (suc (suc q))) < 4 = l in omega arith)
 
 -- the cosine is the sine a quarter turn on
-ahead : (q : ℕ) (s c : Float) → q < 4 → cosineAt q s c ≡ sineAt ((q + 1) % 4) s c
+pub ahead : (q : ℕ) (s c : Float) → q < 4 → cosineAt q s c ≡ sineAt ((q + 1) % 4) s c
 unfolding sineAt cosineAt
 ahead zero s c l = refl
 ahead (suc zero) s c l = refl
 ahead (suc (suc zero)) s c l = refl
 ahead (suc (suc (suc zero))) s c l = refl
 ahead (suc (suc (suc (suc q)))) s c l = absurd (let z : suc (suc (suc (suc q))) < 4 = l in omega arith)
-
-pub cosine-even : (q : ℕ) (s c v : Float) → q < 4 → q % 2 ≡ 0 → v ≡ c → pair v ((q + 1) % 4 / 2) ≡ cosineAt q s c
-cosine-even q s c v l h e =
-    sine-odd ((q + 1) % 4) s c v (omega arith) (let z : (q + 1) % 4 % 2 ≢ 0 = omega arith in z) e ∙ sym (ahead q s c l)
-
-pub cosine-odd : (q : ℕ) (s c v : Float) → q < 4 → q % 2 ≢ 0 → v ≡ s → pair v ((q + 1) % 4 / 2) ≡ cosineAt q s c
-cosine-odd q s c v l h e =
-    sine-even ((q + 1) % 4) s c v (omega arith) (let z : (q + 1) % 4 % 2 ≡ 0 = omega arith in z) e ∙ sym (ahead q s c l)
 
 module _ (x : Float) (q : ℕ) (r s p res : Float) (i : inRange x ≡ true) (eq : q ≡ quadrantOf (turns x)) (er : r ≡ reduced x) (es : s ≡ sinePart r (r ⊠ r)) (ep : p ≡ cosinePart (r ⊠ r)) where
   pub sine-is : res ≡ sineAt q s p → res ≡ sine x

@@ -2,7 +2,7 @@
 use Prim.Native.Nat.{ℕ, _-_, _%_}
 use mathlib.Core.Bool.{Bool, cond}
 use lib.Ieee.{Float, binary32, ofInt}
-use Rattle.basic.specs.WholePart.{signed}
+use Rattle.single.specs.Single.{signed}
 
 unfoldable pub turnsFloat : Bool → ℕ → Float
 turnsFloat s k = ofInt binary32 (signed s k)

@@ -106,12 +106,12 @@ fn sine_at(q: u32, s: f32, c: f32) -> f32
     parts[q as usize]
 }
 
+// The cosine is the sine a quarter turn on.
 fn cosine_at(q: u32, s: f32, c: f32) -> f32
     requires { ⌜ q < 4 ⌝ }
     ensures { λ r. ⌜ r ≡ cosineAt q s c ⌝ }
 {
-    let parts = [c, -s, -c, s];
-    parts[q as usize]
+    sine_at((q + 1) % 4, s, c)
 }
 
 // One of the two parts alone: along a row of a table its choice is foreseen.
@@ -133,14 +133,7 @@ fn cosine_of(q: u32, r: f32) -> f32
     requires { ⌜ q < 4 ⌝ }
     ensures { λ c. ⌜ c ≡ cosineAt q (sinePart r (mul binary32 r r)) (cosinePart (mul binary32 r r)) ⌝ }
 {
-    let z = r * r;
-    let v = if q % 2 == 0 {
-        cosine_part(z)
-    } else {
-        sine_part(r, z)
-    };
-    let parts = [v, -v];
-    parts[((q + 1) % 4 / 2) as usize]
+    sine_of((q + 1) % 4, r)
 }
 
 pub fn sin(x: f32) -> f32

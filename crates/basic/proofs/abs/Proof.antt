@@ -1,11 +1,10 @@
-use mathlib.Core.Path.{sym, subst}
-use lib.Dec.{T}
+use Rattle.single.proofs.Booleans.{holds}
 use Rattle.basic.proofs.Absolute.{below-clears, above-keeps}
 use Rattle.basic.proofs.abs.Statement.{statement}
 use Rattle.basic.proofs.abs.Tie as tie
 
 returns : tie.Need-returns
-returns c = below-clears (c .before .args .x) (subst T (sym (c .before .good .0 .1)) tt) (c .if1 .taken)
+returns c = below-clears (c .before .args .x) (holds (c .before .good .0 .1)) (c .if1 .taken)
 
 returns-2 : tie.Need-returns-2
 returns-2 c = above-keeps (c .before .args .x) (c .if1 .left)

@@ -3,12 +3,10 @@ use Rattle.finish.specs.Finish.{monopoleEfficiency}
 use Rattle.finish.proofs.monopole_efficiency.Statement.{statement}
 use Rattle.finish.proofs.monopole_efficiency.Tie as tie
 
--- src/finish.rt:26:1
 returns : tie.Need-returns
 unfolding monopoleEfficiency round ofBits neg
 returns c = rw (c .if1 .taken)
 
--- src/finish.rt:26:1
 returns-2 : tie.Need-returns-2
 unfolding monopoleEfficiency round ofBits neg
 returns-2 c = rw (c .if1 .left)

@@ -1,28 +1,19 @@
 use mathlib.Core.Path.{sym}
-use Prim.Native.Nat.{ℕ, _*_, _≤_, _<_}
-use native.Mathlib.Nat.{mul-le-mul}
-use mir.Val.{Fits}
-use mir.Syntax.{w64}
+use native.Mathlib.Nat.{le-of-lt}
 use native.Mathlib.Omega.{arith}
-use Rattle.root.proofs.Whole.{up-is, down-is, near-is}
+use Rattle.root.proofs.Whole.{square-le, square-fits, up-is, down-is, near-is}
 use borrow.Author.Needs.{needs}
 use Rattle.root.proofs.rounded.Statement.{statement}
 use Rattle.root.proofs.rounded.Tie as tie
 
-square-le : (r : ℕ) → r < 33554432 → r * r ≤ 1125899906842624
-square-le r h = let l : r ≤ 33554432 = omega (arith, h) in mul-le-mul l l
-
-square-fits : (r : ℕ) → r < 33554432 → Fits w64 (r * r)
-square-fits r h = let s : r * r ≤ 1125899906842624 = square-le r h in omega arith
-
 mul-if1 : tie.Need-mul-if1
-mul-if1 c = square-fits (c .args .g) (c .pre .1)
+mul-if1 c = square-fits (c .args .g) (le-of-lt (c .pre .1))
 
 mul-if2 : tie.Need-mul-if2
-mul-if2 c = square-fits (c .before .args .g) (c .before .pre .1)
+mul-if2 c = square-fits (c .before .args .g) (le-of-lt (c .before .pre .1))
 
 add-if2 : tie.Need-add-if2
-add-if2 c = let s = square-le (c .before .args .g) (c .before .pre .1) in omega (arith, s)
+add-if2 c = let s = square-le (c .before .args .g) (le-of-lt (c .before .pre .1)) in omega (arith, s)
 
 returns : tie.Need-returns
 returns c = sym (near-is _ _ (c .before .if1 .taken) (c .if2 .taken))

@@ -1,8 +1,9 @@
-use mathlib.Core.Path.{sym, _∙_, subst, ap}
+use mathlib.Core.Path.{sym, _∙_, ap}
 use Prim.Native.Nat.{ℕ, _*_, _^_}
 use native.Mathlib.Nat.{mul-one, mul-right-comm}
 use lib.Dec.{T, lit<}
 use lib.Ieee.{Float, binary32, fits, toBits}
+use Rattle.single.proofs.Booleans.{holds}
 use Rattle.single.proofs.Positive.{positive-no-nan, scaled-no-nan, scaled-normal, scaled-below, scaled-units, on-normal, on-subnormal, on-top, on-zero, on-other}
 use Rattle.root.specs.Root.{root, rootUnits}
 use borrow.Author.Needs.{needs}
@@ -11,7 +12,7 @@ use Rattle.root.proofs.sqrt.Tie as tie
 
 -- what owning an f32 tells: the format holds it
 held : (c : tie.Start) → T (fits binary32 (c .args .y))
-held c = subst T (sym (c .good .0 .1)) tt
+held c = holds (c .good .0 .1)
 
 abbrev atUnits : ℕ → Float
 atUnits n = rootUnits (n * 2 ^ 149)

@@ -1,11 +1,14 @@
 use borrow.Author.Needs.{needs, sfits-of}
 use borrow.Author.Tests.{lt-ltb, le-ltb}
-use Rattle.curtain.proofs.Count.{up-fits, count-up, count-down}
+use lib.Dec.{lit≤}
+use mir.Syntax.{w32}
+use Rattle.single.proofs.Integers.{plain}
+use Rattle.curtain.proofs.Count.{count-up, count-down}
 use Rattle.curtain.proofs.card.count_of.Statement.{statement}
 use Rattle.curtain.proofs.card.count_of.Tie as tie
 
 cast-k : tie.Need-cast-k
-cast-k c = up-fits (c .before .cut .result) (sfits-of (c .before .cut .ok)) (c .if1 .taken)
+cast-k c = plain w32 (c .before .cut .result) (lit≤ tt) (sfits-of (c .before .cut .ok)) (c .if1 .taken) .0
 
 returns : tie.Need-returns
 returns c = rw (

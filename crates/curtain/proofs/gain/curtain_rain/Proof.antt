@@ -4,9 +4,6 @@ use borrow.Author.Needs.{needs}
 use Rattle.curtain.proofs.gain.curtain_rain.Statement.{statement}
 use Rattle.curtain.proofs.gain.curtain_rain.Tie as tie
 
-enum-told : tie.Need-enum-told
-enum-told c = search needs
-
 returns : tie.Need-returns
 unfolding rainOf round ofBits neg
 returns c = rw (c .enum-told .given .1)
@@ -22,4 +19,4 @@ returns-3 c = rw (c .before .gain .given .1)
 pub curtain-rain-spec : {M : Type 1} → statement M
 curtain-rain-spec =
     tie.close
-    (tie.spec enum-told (λ c. search needs) (λ c. search needs) returns returns-2 returns-3)
+    (tie.spec (λ c. search needs) (λ c. search needs) (λ c. search needs) returns returns-2 returns-3)

@@ -4,9 +4,6 @@ use borrow.Author.Needs.{needs}
 use Rattle.curtain.proofs.gain.curtain_sok.Statement.{statement}
 use Rattle.curtain.proofs.gain.curtain_sok.Tie as tie
 
-enum-told : tie.Need-enum-told
-enum-told c = search needs
-
 returns : tie.Need-returns
 unfolding sokOf round ofBits
 returns c = rw (c .enum-told .given .1)
@@ -22,4 +19,4 @@ returns-3 c = rw (c .enum-told3 .given .1)
 pub curtain-sok-spec : {M : Type 1} → statement M
 curtain-sok-spec =
     tie.close
-    (tie.spec enum-told (λ c. search needs) (λ c. search needs) returns returns-2 returns-3)
+    (tie.spec (λ c. search needs) (λ c. search needs) (λ c. search needs) returns returns-2 returns-3)

@@ -5,11 +5,9 @@ use Rattle.listing.proofs.Entries.{type-formed, type-malformed}
 use Rattle.listing.proofs.card.card_type.Statement.{statement}
 use Rattle.listing.proofs.card.card_type.Tie as tie
 
--- src/card.rt:49:1
 returns : tie.Need-returns
 returns c = type-formed (c .before .before .before .args .line) _ (c .before .if1 .taken) (toZ-ofZ w32 _ (search needs))
 
--- src/card.rt:49:1
 returns-2 : tie.Need-returns-2
 returns-2 c = type-malformed (c .before .before .args .line) (c .if1 .left)
 

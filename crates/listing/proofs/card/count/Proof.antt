@@ -6,19 +6,13 @@ use borrow.Author.Needs.{needs}
 use Rattle.listing.proofs.card.count.Statement.{statement}
 use Rattle.listing.proofs.card.count.Tie as tie
 
--- src/card.rt:30:9
-add-result : tie.Need-add-result
-add-result c = search needs
-
--- src/card.rt:26:1
 returns : tie.Need-returns
 unfolding counted
 returns c = rw (lt-ltb (c .before .args .listed) 10000000 (c .if1 .taken), add-one (c .before .args .listed)) refl
 
--- src/card.rt:26:1
 returns-2 : tie.Need-returns-2
 unfolding counted
 returns-2 c = rw (le-ltb (c .before .args .listed) 10000000 (c .if1 .left)) refl
 
 pub count-spec : {M : Type 1} → statement M
-count-spec = tie.close (tie.spec add-result returns returns-2)
+count-spec = tie.close (tie.spec (λ c. search needs) returns returns-2)

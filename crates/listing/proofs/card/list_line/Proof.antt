@@ -11,48 +11,18 @@ use borrow.Author.Needs.{needs}
 use Rattle.listing.proofs.card.list_line.Statement.{statement}
 use Rattle.listing.proofs.card.list_line.Tie as tie
 
--- src/card.rt:86:9
-count-requires : tie.Need-count-requires
-count-requires c κs = search needs
-
--- src/card.rt:87:37
 slice-aggregate-read-line : tie.Need-slice-aggregate-read-line
 slice-aggregate-read-line c = sym (length-take-le _ _ (c .before .before .before .before .before .before .pre .0))
 
--- src/card.rt:87:9
-read-line-requires : tie.Need-read-line-requires
-read-line-requires c κs = search needs
-
--- src/card.rt:88:9
-run-line-requires : tie.Need-run-line-requires
-run-line-requires c κs = search needs
-
--- src/card.rt:90:41
-card-type-requires : tie.Need-card-type-requires
-card-type-requires c κs = search needs
-
--- src/card.rt:90:9
-heading-requires : tie.Need-heading-requires
-heading-requires c κs = search needs
-
--- src/card.rt:91:9
 rows-requires : tie.Need-rows-requires
 rows-requires c κs = (accepted _ _ _ _ _ (c .before .before .before .before .before .before .before .before .before .before .run-line .ensures), search needs, room (c .before .before .before .before .heading .ensures) 540 (heading-length _ _ _) (c .before .before .before .before .before .before .before .before .before .before .before .before .before .before .before .before .before .before .before .pre .2) (lit≤ tt))
 
--- src/card.rt:74:1
-same-length : tie.Need-same-length
-same-length c = search needs
-
--- src/card.rt:74:1
-same-length-2 : tie.Need-same-length-2
-same-length-2 c = search needs
-
--- src/card.rt:74:1
 returns : tie.Need-returns
 returns c = line-listed _ _ _ _ _ _ _ _ _ _ _ _ _ _ (c .before .before .before .before .before .before .before .before .before .before .before .before .before .before .before .before .before .count .ensures) (c .before .before .before .before .before .before .before .before .before .before .before .before .before .before .before .read-line .result) (c .before .before .before .before .before .before .before .before .before .before .before .before .before .before .before .read-line .ensures) (toZ-ofZ w32 _ (search needs) ∙ c .before .before .before .before .before .before .before .before .before .card-type .ensures) (c .before .before .before .before .before .before .before .before .before .before .before .before .before .run-line .ensures) (c .before .before .before .before .before .before .before .heading .ensures) (c .before .before .rows .ensures .0) (c .before .before .rows .ensures .1)
 
 pub list-line-spec : {M : Type 1} → statement M
 list-line-spec =
     tie.close
-    (tie.spec count-requires slice-aggregate-read-line read-line-requires run-line-requires card-type-requires
-    heading-requires rows-requires same-length same-length-2 returns)
+    (tie.spec (λ c κs. search needs) slice-aggregate-read-line (λ c κs. search needs) (λ c κs. search needs)
+    (λ c κs. search needs) (λ c κs. search needs) rows-requires (λ c. search needs) (λ c. search needs)
+    returns)

@@ -10,40 +10,29 @@ use borrow.Author.Needs.{needs}
 use Rattle.listing.proofs.card.rows.Statement.{statement}
 use Rattle.listing.proofs.card.rows.Tie as tie
 
--- src/card.rt:65:9
 returns : tie.Need-returns
 returns c = (refused-rows (c .before .before .before .args .line) _ _ _ _ (c .if1 .taken) (omega (arith, c .before .before .before .pre .2)), omega arith)
 
--- src/card.rt:69:16
 cast-from : tie.Need-cast-from
 unfolding cardOf
 cast-from c = card-rows (c .before .before .before .before .before .before .args .line) (c .before .before .before .before .before .before .pre .0 (c .before .before .before .if1 .left)) .firstFits
 
--- src/card.rt:70:17
 cast-count : tie.Need-cast-count
 unfolding cardOf
 cast-count c = card-rows (c .before .before .before .before .before .before .args .line) (c .before .before .before .before .before .before .pre .0 (c .before .before .before .if1 .left)) .lastFits
 
--- src/card.rt:70:17
 sub-count : tie.Need-sub-count
 unfolding cardOf
 sub-count c = card-rows (c .before .before .before .before .before .before .args .line) (c .before .before .before .before .before .before .pre .0 (c .before .before .before .if1 .left)) .order
 
--- src/card.rt:70:17
 add-count : tie.Need-add-count
 unfolding cardOf
 add-count c = let r = card-rows (c .before .before .before .before .before .before .args .line) (c .before .before .before .before .before .before .pre .0 (c .before .before .before .if1 .left)) in omega (arith, r .high)
 
--- src/card.rt:71:5
 rows-requires : tie.Need-rows-requires
 unfolding cardOf
 rows-requires c κs = let r = card-rows (c .before .before .before .before .before .before .before .args .line) (c .before .before .before .before .before .before .before .pre .0 (c .before .before .before .before .if1 .left)) in (c .before .before .before .before .before .before .before .pre .1, r .low, omega (arith, r .high, r .order), c .before .before .before .before .before .before .before .pre .2)
 
--- src/card.rt:60:1
-same-length : tie.Need-same-length
-same-length c = search needs
-
--- src/card.rt:60:1
 returns-2 : tie.Need-returns-2
 unfolding cardOf
 returns-2 c = let r = card-rows (c .before .before .before .before .before .before .before .before .before .before .args .line) (c .before .before .before .before .before .before .before .before .before .before .pre .0 (c .before .before .before .before .before .before .before .if1 .left)) in (accepted-rows (c .before .before .before .before .before .before .before .before .before .before .args .line) _ _ _ _ _ _ (c .before .before .before .before .before .before .before .before .before .before .pre .0 (c .before .before .before .before .before .before .before .if1 .left)) (c .before .before .before .before .before .before .before .if1 .left) (c .before .before .rows .ensures), omega (arith, c .before .before .rows .ensures .end, rows-length (c .before .before .before .before .before .before .before .before .before .before .args .table .now) (natAbs (toZ w32 (ofZ w32 (c .before .before .before .before .before .before .before .before .before .before .args .line .fields .first)))) (natAbs (toZ w32 (ofZ w32 (c .before .before .before .before .before .before .before .before .before .before .args .line .fields .last))) - natAbs (toZ w32 (ofZ w32 (c .before .before .before .before .before .before .before .before .before .before .args .line .fields .first))) + 1), r .low, r .order, r .high))
@@ -51,4 +40,4 @@ returns-2 c = let r = card-rows (c .before .before .before .before .before .befo
 pub rows-spec : {M : Type 1} → statement M
 rows-spec =
     tie.close
-    (tie.spec returns cast-from cast-count sub-count add-count rows-requires same-length returns-2)
+    (tie.spec returns cast-from cast-count sub-count add-count rows-requires (λ c. search needs) returns-2)

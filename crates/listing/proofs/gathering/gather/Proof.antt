@@ -12,48 +12,29 @@ Inv-loop line₀ held piece len₀ i₀ line len i = Gathering held line₀ piec
 abbrev μ-loop : tie.MeasureT-loop
 μ-loop line₀ held piece len₀ i₀ line len i = length piece - i
 
--- src/gathering.rt:36:5
 loop-holds : tie.Need-loop-holds Inv-loop μ-loop
 loop-holds c = gather-start _ _ _ (c .before .before .pre .1)
 
--- src/gathering.rt:37:17
-shared-slice-read-b : tie.Need-shared-slice-read-b Inv-loop μ-loop
-shared-slice-read-b c = search needs
-
--- src/gathering.rt:38:9
-add-i : tie.Need-add-i Inv-loop μ-loop
-add-i c = search needs
-
--- src/gathering.rt:40:13
 same-length : tie.Need-same-length Inv-loop μ-loop
 same-length c = c .before .before .before .loop .inv .long
 
--- src/gathering.rt:40:13
 returns : tie.Need-returns Inv-loop μ-loop
 returns c = gather-feed _ _ _ _ _ _ (c .before .before .before .loop .inv) (c .before .before .loop-test .taken) (c .if1 .taken)
 
--- src/gathering.rt:46:9
 push-requires : tie.Need-push-requires Inv-loop μ-loop
 push-requires c κs = (c .before .before .before .before .loop .inv .long ∙ c .before .before .before .before .before .before .before .pre .0, c .before .before .before .before .loop .inv .low)
 
--- src/gathering.rt:36:5
-loop-less : tie.Need-loop-less Inv-loop μ-loop
-loop-less c = search needs
-
--- src/gathering.rt:36:5
 loop-again : tie.Need-loop-again Inv-loop μ-loop
 loop-again c = gather-step _ _ _ _ _ _ (c .before .before .before .before .before .before .before .loop .inv) _ _ (search needs) (c .before .before .before .before .before .before .loop-test .taken) (c .before .before .before .before .if1 .left) (c .before .before .push .ensures)
 
--- src/gathering.rt:30:1
 same-length-2 : tie.Need-same-length-2 Inv-loop μ-loop
 same-length-2 c = c .before .loop .inv .long
 
--- src/gathering.rt:30:1
 returns-2 : tie.Need-returns-2 Inv-loop μ-loop
 returns-2 c = gather-end _ _ _ _ _ _ (c .before .loop .inv) (c .loop-test .left)
 
 pub gather-spec : {M : Type 1} → statement M
 gather-spec =
     tie.close
-    (tie.spec Inv-loop μ-loop loop-holds shared-slice-read-b add-i same-length returns push-requires loop-less
-    loop-again same-length-2 returns-2)
+    (tie.spec Inv-loop μ-loop loop-holds (λ c. search needs) (λ c. search needs) same-length returns
+    push-requires (λ c. search needs) loop-again same-length-2 returns-2)

@@ -4,12 +4,10 @@ use Rattle.listing.specs.Session.{heldIn}
 use Rattle.listing.proofs.session.held_in.Statement.{statement}
 use Rattle.listing.proofs.session.held_in.Tie as tie
 
--- src/session.rt:53:1
 returns : tie.Need-returns
 unfolding heldIn
 returns c = rw (lt-ltb (c .before .args .session .held) 120 (c .if1 .taken)) refl
 
--- src/session.rt:53:1
 returns-2 : tie.Need-returns-2
 unfolding heldIn
 returns-2 c = rw (le-ltb (c .before .args .session .held) 120 (c .if1 .left)) refl

@@ -12,39 +12,23 @@ Inv-loop table first count out₀ at end₀ n₀ out end n = Rows table first co
 abbrev μ-loop : tie.MeasureT-loop
 μ-loop table first count out₀ at end₀ n₀ out end n = count - n
 
--- src/writing.rt:67:5
 loop-holds : tie.Need-loop-holds Inv-loop μ-loop
 loop-holds c = rows-start (nothing _ _ (omega (arith, c .before .before .pre .3)))
 
--- src/writing.rt:68:26
-add-row : tie.Need-add-row Inv-loop μ-loop
-add-row c = search needs
-
--- src/writing.rt:68:9
 row-requires : tie.Need-row-requires Inv-loop μ-loop
 row-requires c κs = (c .before .before .before .before .before .pre .0, omega (arith, c .before .before .before .before .before .pre .1), omega (arith, c .before .before .before .before .before .pre .2, c .before .loop-test .taken), rows-room (c .before .before .loop .inv) (c .before .loop-test .taken) (c .before .before .before .before .before .pre .2) (c .before .before .before .before .before .pre .1) (c .before .before .before .before .before .pre .3))
 
--- src/writing.rt:69:9
-add-n : tie.Need-add-n Inv-loop μ-loop
-add-n c = search needs
-
--- src/writing.rt:67:5
-loop-less : tie.Need-loop-less Inv-loop μ-loop
-loop-less c = search needs
-
--- src/writing.rt:67:5
 loop-again : tie.Need-loop-again Inv-loop μ-loop
 loop-again c = rows-step (c .before .before .before .before .before .loop .inv) (c .before .before .before .before .loop-test .taken) (c .before .before .row .ensures)
 
--- src/writing.rt:61:1
 same-length : tie.Need-same-length Inv-loop μ-loop
 same-length c = long (c .before .loop .inv .text)
 
--- src/writing.rt:61:1
 returns : tie.Need-returns Inv-loop μ-loop
 returns c = rows-end (c .before .loop .inv) (c .loop-test .left)
 
 pub rows-spec : {M : Type 1} → statement M
 rows-spec =
     tie.close
-    (tie.spec Inv-loop μ-loop loop-holds add-row row-requires add-n loop-less loop-again same-length returns)
+    (tie.spec Inv-loop μ-loop loop-holds (λ c. search needs) row-requires (λ c. search needs)
+    (λ c. search needs) loop-again same-length returns)

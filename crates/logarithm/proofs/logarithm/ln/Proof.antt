@@ -1,8 +1,9 @@
-use mathlib.Core.Path.{_≡_, refl, sym, _∙_, subst, ap}
+use mathlib.Core.Path.{_≡_, refl, sym, _∙_, ap}
 use mathlib.Core.Bool.{true}
 use Prim.Native.Nat.{ℕ}
 use lib.Dec.{T, lit<}
 use lib.Ieee.{Float, inf, binary32, fits, ofBits, div, neg}
+use Rattle.single.proofs.Booleans.{holds}
 use Rattle.single.proofs.Positive.{positive-no-nan, low-pos, scaled-no-nan, scaled-normal, scaled-below, scaled-units, on-normal, on-subnormal, on-top, on-zero, on-other}
 use Rattle.logarithm.specs.Logarithm.{lnFrom, logarithm}
 use Rattle.logarithm.proofs.Digits.{scaled}
@@ -12,7 +13,7 @@ use Rattle.logarithm.proofs.logarithm.ln.Tie as tie
 
 -- what owning an f32 tells: the format holds it
 held : (c : tie.Start) → T (fits binary32 (c .args .y))
-held c = subst T (sym (c .good .0 .1)) tt
+held c = holds (c .good .0 .1)
 
 abbrev atUnits : ℕ → Float
 atUnits n = lnFrom n 150

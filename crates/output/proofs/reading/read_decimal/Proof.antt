@@ -20,9 +20,6 @@ returns c = too-short _ (c .if1 .taken)
 slice-aggregate-signed-digits : tie.Need-slice-aggregate-signed-digits
 slice-aggregate-signed-digits c = sym (length-take-le _ _ (omega arith))
 
-enum-told : tie.Need-enum-told
-enum-told c = search needs
-
 returns-2 : tie.Need-returns-2
 returns-2 c = no-front _ _ (c .before .before .signed-digits .ensures) (c .enum-told .given .1)
 
@@ -48,6 +45,7 @@ pub read-decimal-spec : {M : Type 1} → statement M
 read-decimal-spec =
     tie.close
     (tie.spec returns (λ c. search needs) slice-aggregate-signed-digits (λ c κs. search needs)
-    (λ c. search needs) enum-told returns-2 (λ c. search needs) (λ c. search needs) (λ c. search needs)
-    (λ c. search needs) (λ c κs. search needs) (λ c. search needs) (λ c. search needs) returns-3
-    (λ c. search needs) returns-4 mul-ten-thousandths add-ten-thousandths ten-thousandths-requires returns-5)
+    (λ c. search needs) (λ c. search needs) returns-2 (λ c. search needs) (λ c. search needs)
+    (λ c. search needs) (λ c. search needs) (λ c κs. search needs) (λ c. search needs) (λ c. search needs)
+    returns-3 (λ c. search needs) returns-4 mul-ten-thousandths add-ten-thousandths ten-thousandths-requires
+    returns-5)

@@ -3,9 +3,6 @@ use Rattle.output.proofs.Parts.{no-integer, casts, turns, negative, pos
 use Rattle.output.proofs.reading.read_integer.Statement.{statement}
 use Rattle.output.proofs.reading.read_integer.Tie as tie
 
-enum-told : tie.Need-enum-told
-enum-told c = search needs
-
 returns : tie.Need-returns
 returns c = no-integer _ _ (c .before .before .signed-digits .ensures) (c .enum-told .given .1)
 
@@ -27,5 +24,5 @@ returns-3 c = positive _ _ (c .before .before .before .before .signed-digits .en
 pub read-integer-spec : {M : Type 1} → statement M
 read-integer-spec =
     tie.close
-    (tie.spec (λ c κs. search needs) (λ c. search needs) enum-told returns cast-t6 sub-t7 returns-2 cast-t8
-    returns-3)
+    (tie.spec (λ c κs. search needs) (λ c. search needs) (λ c. search needs) returns cast-t6 sub-t7 returns-2
+    cast-t8 returns-3)

@@ -3,9 +3,6 @@ use Rattle.output.proofs.Printed.{prints-whole, prints-over, prints-nan
 use Rattle.output.proofs.writing.hundredths_field.Statement.{statement}
 use Rattle.output.proofs.writing.hundredths_field.Tie as tie
 
-enum-told : tie.Need-enum-told
-enum-told c = search needs
-
 returns : tie.Need-returns
 returns c = prints-whole _ _ _ _ _ (c .before .before .before .before .before .before .before .to-hundredths .ensures) (c .before .before .before .before .before .n .given .1) (c .before .before .i .ensures)
 
@@ -18,6 +15,6 @@ returns-3 c = prints-nan _ _ _ _ (c .before .before .before .before .before .bef
 pub hundredths-field-spec : {M : Type 1} → statement M
 hundredths-field-spec =
     tie.close
-    (tie.spec (λ c κs. search needs) (λ c. search needs) (λ c κs. search needs) enum-told
+    (tie.spec (λ c κs. search needs) (λ c. search needs) (λ c κs. search needs) (λ c. search needs)
     (λ c κs. search needs) (λ c. search needs) (λ c κs. search needs) (λ c. search needs) returns
     (λ c. search needs) returns-2 (λ c. search needs) returns-3)

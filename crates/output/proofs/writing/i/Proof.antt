@@ -5,7 +5,7 @@ use lib.ListN.{length, length-set}
 use lib.Seq.{length-take-le}
 use mir.Syntax.{w64}
 use mir.ValLaws.{toZ-ofZ}
-use Rattle.output.proofs.Signs.{is-plus, is-minus}
+use Rattle.single.proofs.Integers.{is-plus, is-minus}
 use Rattle.output.specs.Placed.{Stands}
 use Rattle.output.proofs.Field.{field-length, at, too-long, all-stars, plus, no-room, minus}
 use borrow.Author.Needs.{needs}
@@ -19,9 +19,6 @@ size c = c .before .before .magnitude .ensures ∙ ap natAbs (toZ-ofZ w64 _ (c .
 -- where they stand
 standing : (c : tie.After-start) → Stands (c .before .before .before .before .before .before .magnitude .result) (c .before .before .before .before .before .before .before .before .args .out .now) (c .before .before .before .before .digits .last .1 .0) (c .start .given .0 .0)
 standing c = at _ _ _ _ _ (c .before .before .before .before .digits .ensures) (c .start .given .1)
-
-enum-told : tie.Need-enum-told
-enum-told c = search needs
 
 returns : tie.Need-returns
 returns c = all-stars _ _ _ _ _ (size (c .before .before .before .before .before .before .before .before)) (too-long _ _ _ _ (c .before .before .before .before .before .before .before .before .digits .ensures) (c .before .before .before .before .enum-told .given .1)) (c .before .before .fill .ensures)
@@ -56,7 +53,7 @@ same-length-4 c = ap length (returns-4 c) ∙ field-length _ _
 pub i-spec : {M : Type 1} → statement M
 i-spec =
     tie.close
-    (tie.spec (λ c κs. search needs) (λ c κs. search needs) (λ c. search needs) enum-told
+    (tie.spec (λ c κs. search needs) (λ c κs. search needs) (λ c. search needs) (λ c. search needs)
     (λ c κs. search needs) (λ c. search needs) returns slice-relend-prefix-fill slice-aggregate-fill
     (λ c κs. search needs) (λ c. search needs) returns-2 (λ c κs. search needs) (λ c. search needs) returns-3
     (λ c. search needs) slice-write-out slice-relend-prefix-fill-2 slice-aggregate-fill-2

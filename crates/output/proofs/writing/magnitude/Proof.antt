@@ -1,7 +1,8 @@
 use borrow.Author.Needs.{needs}
 use lib.Dec.{lit≤}
 use mir.Syntax.{w64}
-use Rattle.output.proofs.Signs.{Plain, plain, Turned, turn}
+use Rattle.single.proofs.Integers.{Plain, plain}
+use Rattle.output.proofs.Signs.{Turned, turn}
 use Rattle.output.proofs.writing.magnitude.Statement.{statement}
 use Rattle.output.proofs.writing.magnitude.Tie as tie
 

@@ -4,9 +4,6 @@ use borrow.Author.Needs.{needs}
 use Rattle.parameters.proofs.model.curtain_elevation_threshold.Statement.{statement}
 use Rattle.parameters.proofs.model.curtain_elevation_threshold.Tie as tie
 
-enum-told : tie.Need-enum-told
-enum-told c = search needs
-
 returns : tie.Need-returns
 unfolding curtainElevationThreshold round ofBits
 returns c = rw (c .enum-told .given .1)
@@ -26,4 +23,5 @@ returns-4 c = rw (c .before .before .model .given .1, c .if1 .left)
 pub curtain-elevation-threshold-spec : {M : Type 1} → statement M
 curtain-elevation-threshold-spec =
     tie.close
-    (tie.spec enum-told (λ c. search needs) (λ c. search needs) returns returns-2 returns-3 returns-4)
+    (tie.spec (λ c. search needs) (λ c. search needs) (λ c. search needs) returns returns-2 returns-3
+    returns-4)

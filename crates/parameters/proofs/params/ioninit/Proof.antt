@@ -1,3 +1,8 @@
+use mathlib.Core.Path.{_≡_}
+use Prim.Native.Nat.{ℕ}
+use lib.IntN.{ℤ}
+use mir.Syntax.{w32}
+use mir.Val.{ofZ, toZ}
 use borrow.Author.Needs.{needs}
 use lib.Ieee.{round, ofBits}
 use Rattle.parameters.specs.Params.{isType, ioninitOf}
@@ -5,49 +10,17 @@ use Rattle.parameters.proofs.Types.{no-type, is-type}
 use Rattle.parameters.proofs.params.ioninit.Statement.{statement}
 use Rattle.parameters.proofs.params.ioninit.Tie as tie
 
-returns : tie.Need-returns
-unfolding ioninitOf isType round ofBits
-returns c = rw (is-type (c .before .before .before .before .before .before .before .before .before .args .index) (search needs) (c .before .match .keys1)) (c .params .ensures)
+-- the type, where a key of the match is its pattern
+abbrev typeOf : tie.After-s12 → ℤ
+typeOf c = c .before .before .before .before .before .before .before .args .index
 
-returns-2 : tie.Need-returns-2
-unfolding ioninitOf isType round ofBits
-returns-2 c = rw (is-type (c .before .before .before .before .before .before .before .before .before .args .index) (search needs) (c .before .match .keys2)) (c .params2 .ensures)
+typed : (c : tie.After-s12) {n : ℕ} → ofZ w32 (typeOf c) ≡ n → typeOf c ≡ toZ w32 n
+typed c e = is-type (typeOf c) (search needs) e
 
-returns-3 : tie.Need-returns-3
-unfolding ioninitOf isType round ofBits
-returns-3 c = rw (is-type (c .before .before .before .before .before .before .before .before .before .args .index) (search needs) (c .before .match .keys3)) (c .params3 .ensures)
-
-returns-4 : tie.Need-returns-4
-unfolding ioninitOf isType round ofBits
-returns-4 c = rw (is-type (c .before .before .before .before .before .before .before .before .before .args .index) (search needs) (c .before .match .keys4)) (c .params4 .ensures)
-
-returns-5 : tie.Need-returns-5
-unfolding ioninitOf isType round ofBits
-returns-5 c = rw (is-type (c .before .before .before .before .before .before .before .before .before .args .index) (search needs) (c .before .match .keys5)) (c .params5 .ensures)
-
-returns-6 : tie.Need-returns-6
-unfolding ioninitOf isType round ofBits
-returns-6 c = rw (is-type (c .before .before .before .before .before .before .before .before .before .args .index) (search needs) (c .before .match .keys6)) (c .params6 .ensures)
-
-returns-7 : tie.Need-returns-7
-unfolding ioninitOf isType round ofBits
-returns-7 c = rw (is-type (c .before .before .before .before .before .before .before .before .before .args .index) (search needs) (c .before .match .keys7)) (c .params7 .ensures)
-
-returns-8 : tie.Need-returns-8
-unfolding ioninitOf isType round ofBits
-returns-8 c = rw (is-type (c .before .before .before .before .before .before .before .before .before .args .index) (search needs) (c .before .match .keys8)) (c .params8 .ensures)
-
-returns-9 : tie.Need-returns-9
-unfolding ioninitOf isType round ofBits
-returns-9 c = rw (is-type (c .before .before .before .before .before .before .before .before .before .args .index) (search needs) (c .before .match .keys9)) (c .params9 .ensures)
-
-returns-10 : tie.Need-returns-10
-unfolding ioninitOf isType round ofBits
-returns-10 c = rw (is-type (c .before .before .before .before .before .before .before .before .before .args .index) (search needs) (c .before .match .keys10)) (c .params10 .ensures)
-
-returns-11 : tie.Need-returns-11
+-- any other type
+returns-other : tie.Need-returns-11
 unfolding ioninitOf round ofBits
-returns-11 c = let r = c .before .match .rest in rw (
+returns-other c = let r = c .before .match .rest in rw (
   no-type _ 1 (r .0 .0 .0 .0 .0 .0 .0 .0 .0 .1),
   no-type _ 2 (r .0 .0 .0 .0 .0 .0 .0 .0 .1),
   no-type _ 3 (r .0 .0 .0 .0 .0 .0 .0 .1),
@@ -67,5 +40,15 @@ ioninit-spec =
     (λ c. search needs) (λ c. search needs) (λ c. search needs) (λ c κs. search needs) (λ c κs. search needs)
     (λ c κs. search needs) (λ c κs. search needs) (λ c κs. search needs) (λ c κs. search needs)
     (λ c κs. search needs) (λ c κs. search needs) (λ c κs. search needs) (λ c κs. search needs)
-    (λ c κs. search needs) returns returns-2 returns-3 returns-4 returns-5 returns-6 returns-7 returns-8
-    returns-9 returns-10 returns-11)
+    (λ c κs. search needs)
+    (λ c. unfold ioninitOf in unfold isType in unfold round in unfold ofBits in rw (typed (c .before .before) (c .before .match .keys1)) (c .params .ensures))
+    (λ c. unfold ioninitOf in unfold isType in unfold round in unfold ofBits in rw (typed (c .before .before) (c .before .match .keys2)) (c .params2 .ensures))
+    (λ c. unfold ioninitOf in unfold isType in unfold round in unfold ofBits in rw (typed (c .before .before) (c .before .match .keys3)) (c .params3 .ensures))
+    (λ c. unfold ioninitOf in unfold isType in unfold round in unfold ofBits in rw (typed (c .before .before) (c .before .match .keys4)) (c .params4 .ensures))
+    (λ c. unfold ioninitOf in unfold isType in unfold round in unfold ofBits in rw (typed (c .before .before) (c .before .match .keys5)) (c .params5 .ensures))
+    (λ c. unfold ioninitOf in unfold isType in unfold round in unfold ofBits in rw (typed (c .before .before) (c .before .match .keys6)) (c .params6 .ensures))
+    (λ c. unfold ioninitOf in unfold isType in unfold round in unfold ofBits in rw (typed (c .before .before) (c .before .match .keys7)) (c .params7 .ensures))
+    (λ c. unfold ioninitOf in unfold isType in unfold round in unfold ofBits in rw (typed (c .before .before) (c .before .match .keys8)) (c .params8 .ensures))
+    (λ c. unfold ioninitOf in unfold isType in unfold round in unfold ofBits in rw (typed (c .before .before) (c .before .match .keys9)) (c .params9 .ensures))
+    (λ c. unfold ioninitOf in unfold isType in unfold round in unfold ofBits in rw (typed (c .before .before) (c .before .match .keys10)) (c .params10 .ensures))
+    returns-other)

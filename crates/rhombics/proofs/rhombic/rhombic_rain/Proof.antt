@@ -7,7 +7,7 @@ use Rattle.rhombics.proofs.rhombic.rhombic_rain.Tie as tie
 
 returns : tie.Need-returns
 unfolding rhombicOf square round ofBits
-returns c = rw (← c .before .before .elfac .ensures, ← c .before .with-image .ensures, ← c .with-image2 .ensures)
+returns c = rw (← c .before .before .before .before .before .before .elfac .ensures, ← c .before .before .with-image .ensures, ← c .before .with-image2 .ensures)
 
 pub rhombic-rain-spec : {M : Type 1} → statement M
 rhombic-rain-spec =

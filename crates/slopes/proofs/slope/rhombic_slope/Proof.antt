@@ -6,7 +6,7 @@ use Rattle.slopes.proofs.slope.rhombic_slope.Tie as tie
 
 returns : tie.Need-returns
 unfolding rhombicSlope round ofBits
-returns c = rw (← c .before .ht-of .ensures, ← c .slope-of .ensures)
+returns c = rw (← c .before .rise-of .ensures, ← c .slope-of .ensures)
 
 pub rhombic-slope-spec : {M : Type 1} → statement M
 rhombic-slope-spec = tie.close (tie.spec (λ c κs. search needs) (λ c κs. search needs) returns)

@@ -6,14 +6,17 @@ use Rattle.sloping_patterns.proofs.rhombic.sloping_rhombic_rain.Tie as 
 
 returns : tie.Need-returns
 unfolding slopingRhombicRain round ofBits
-returns c = rw (
-  ← c .before .before .before .before .before .before .before .before .before .direction-of .ensures,
-  ← c .before .before .before .before .before .before .before .before .leg-pair-of .ensures,
-  ← c .before .before .before .before .before .before .before .leg-pair-of2 .ensures,
-  ← c .before .before .before .before .before .before .reflected-of .ensures,
-  ← c .before .before .before .before .before .field-of .ensures,
-  ← c .before .before .before .before .field-of2 .ensures,
-)
+returns c =
+    let w = c .before .before .before .before .before .before in
+    let legs = w .before .before .before .before .before .before .before .before .before .before .before in
+    rw (
+      ← legs .before .before .direction-of .ensures,
+      ← legs .before .leg-pair-of .ensures,
+      ← legs .leg-pair-of2 .ensures,
+      ← w .reflected-of .ensures,
+      ← c .before .before .before .before .before .field-of .ensures,
+      ← c .before .before .before .before .field-of2 .ensures,
+    )
 
 pub sloping-rhombic-rain-spec : {M : Type 1} → statement M
 sloping-rhombic-rain-spec =

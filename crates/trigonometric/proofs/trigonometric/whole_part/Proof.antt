@@ -5,6 +5,7 @@ use native.Mathlib.Omega.{arith}
 use lib.Dec.{T, lit≤}
 use lib.Ieee.{Float, nan, inf, fin, binary32, ofBits, toBits, isNan}
 use lib.Ieee.Bits.{ofBits-toBits}
+use Rattle.single.proofs.Booleans.{holds}
 use Rattle.single.proofs.Magnitude.{Mag}
 use Rattle.basic.specs.Basic.{absolute}
 use Rattle.basic.proofs.Absolute.{bits-absolute}
@@ -21,7 +22,7 @@ mag-number (fin s n e) m = tt
 
 -- the pattern without its sign bit is the magnitude's
 pattern : (c : tie.Start) → ofBits binary32 (toBits binary32 (c .args .t) % 2147483648) ≡ absolute (c .args .t)
-pattern c = bits-absolute (toBits binary32 (c .args .t)) ∙ ap absolute (ofBits-toBits binary32 (c .args .t) (subst T (sym (c .good .0 .1)) tt))
+pattern c = bits-absolute (toBits binary32 (c .args .t)) ∙ ap absolute (ofBits-toBits binary32 (c .args .t) (holds (c .good .0 .1)))
 
 float-to-bits-b : tie.Need-float-to-bits-b
 float-to-bits-b c = mag-number (c .args .t) (c .pre)
