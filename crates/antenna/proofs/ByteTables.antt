@@ -29,9 +29,9 @@ pub no-table : (bs : List ℕ) → length bs ≢ byteCount → isTable (tableOf 
 unfolding isTable tableOf
 no-table bs h = rw (ne-eqb _ _ h)
 
--- the bytes are as many as a table's, and the MHz within the limits
-pub bytes-accepted : (bs : List ℕ) (fmc delta : Float) → lookupRefusal (tableOf bs) fmc delta ≡ 0 → (length bs ≡ byteCount) × (outside fmc ≡ false)
-bytes-accepted bs fmc delta e = let a = accepted (tableOf bs) fmc delta e in (go (eqb (length bs) byteCount) refl (a .0), a .1)
+-- the bytes are as many as a table's, and the MHz and the elevation within the limits
+pub bytes-accepted : (bs : List ℕ) (fmc delta : Float) → lookupRefusal (tableOf bs) fmc delta ≡ 0 → (length bs ≡ byteCount) × (outside fmc ≡ false) × (outside delta ≡ false)
+bytes-accepted bs fmc delta e = let a = accepted (tableOf bs) fmc delta e in (go (eqb (length bs) byteCount) refl (a .0), a .1, a .2)
   where
     go : (b : Bool) → eqb (length bs) byteCount ≡ b → length (tableOf bs) ≡ tableLength → length bs ≡ byteCount
     go true f h = eqb-true _ _ f

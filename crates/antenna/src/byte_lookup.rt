@@ -10,7 +10,6 @@ ghost use Rattle.antenna.specs.Lookups.{lookupNumber, lookupValues};
 ghost use Rattle.antenna.specs.Lookups.{gainLookupNumber, gainLookupValues};
 ghost use Rattle.antenna.specs.Rows.{InTable, rowOf};
 use crate::lookups::Lookup;
-use crate::places::Place;
 use crate::places::locate;
 use crate::rows::Row;
 use crate::rows::blend;
@@ -63,15 +62,8 @@ pub fn gain_lookup_in_bytes(table: &[u8], fmc: f32, delta: f32) -> Lookup
     if refusal != 0 {
         return Lookup::Refused(refusal);
     }
-    let Place {
-        i,
-        ip1,
-        xfmc,
-        j,
-        jp1,
-        xdelta,
-    } = locate(fmc, delta);
-    let low = byte_row_at(table, i, j, jp1);
-    let high = byte_row_at(table, ip1, j, jp1);
-    Lookup::Accepted(blend(low, high, xfmc, xdelta))
+    let at = locate(fmc, delta);
+    let low = byte_row_at(table, at.i, at.j, at.jp1);
+    let high = byte_row_at(table, at.ip1, at.j, at.jp1);
+    Lookup::Accepted(blend(low, high, at.xfmc, at.xdelta))
 }

@@ -2,7 +2,6 @@
 ghost use mathlib.Core.Path.{_≡_};
 ghost use Rattle.antenna.specs.Lookups.{lookupNumber, lookupValues};
 ghost use Rattle.antenna.specs.Lookups.{gainLookupNumber, gainLookupValues, cardLookupNumber, cardLookupValues};
-use crate::places::Place;
 use crate::places::locate;
 use crate::rows::GainEfficiency;
 use crate::rows::blend;
@@ -25,17 +24,10 @@ pub fn gain_lookup(table: &[f32], fmc: f32, delta: f32) -> Lookup
     if refusal != 0 {
         return Lookup::Refused(refusal);
     }
-    let Place {
-        i,
-        ip1,
-        xfmc,
-        j,
-        jp1,
-        xdelta,
-    } = locate(fmc, delta);
-    let low = row_at(table, i, j, jp1);
-    let high = row_at(table, ip1, j, jp1);
-    Lookup::Accepted(blend(low, high, xfmc, xdelta))
+    let at = locate(fmc, delta);
+    let low = row_at(table, at.i, at.j, at.jp1);
+    let high = row_at(table, at.ip1, at.j, at.jp1);
+    Lookup::Accepted(blend(low, high, at.xfmc, at.xdelta))
 }
 
 // By the card's first and last MHz and its verdict: rows that it did not fill count as zeros, and a
@@ -61,15 +53,8 @@ pub fn card_lookup(
             efficiency: 0.0,
         });
     }
-    let Place {
-        i,
-        ip1,
-        xfmc,
-        j,
-        jp1,
-        xdelta,
-    } = locate(fmc, delta);
-    let low = card_row(first, last, table, i, j, jp1);
-    let high = card_row(first, last, table, ip1, j, jp1);
-    Lookup::Accepted(blend(low, high, xfmc, xdelta))
+    let at = locate(fmc, delta);
+    let low = card_row(first, last, table, at.i, at.j, at.jp1);
+    let high = card_row(first, last, table, at.ip1, at.j, at.jp1);
+    Lookup::Accepted(blend(low, high, at.xfmc, at.xdelta))
 }

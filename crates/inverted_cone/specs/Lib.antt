@@ -1,1 +1,2 @@
 pub mod InvertedCone
+pub mod Corners

@@ -1,7 +1,7 @@
 -- What a lookup that is not refused knows. Assumes nothing.
 use Prim.Native.Nat.{ℕ, suc}
 use mathlib.Core.Path.{_≡_, refl}
-use mathlib.Core.Bool.{Bool, true, false, not, cond, _&&_}
+use mathlib.Core.Bool.{Bool, true, false, not, cond, _&&_, _||_}
 use mathlib.Core.List.{List, [], _∷_}
 use native.Mathlib.Omega.{arith}
 use borrow.Author.Tests.{eqb-true}
@@ -9,7 +9,7 @@ use lib.Dec.{eqb}
 use lib.IntN.{ℤ}
 use lib.ListN.{length}
 use lib.Ieee.{Float}
-use Rattle.single.proofs.Booleans.{or-left}
+use Rattle.single.proofs.Booleans.{or-left, or-right}
 use Rattle.limits.specs.Refusals.{firstRefusal}
 use Rattle.limits.specs.Tests.{outside, anyOutside}
 use Rattle.table.specs.Range.{isRange}
@@ -28,11 +28,12 @@ both true true e = absurd (never 1 e)
 both true false e = (refl, refl)
 both false b e = absurd (never 6 e)
 
-pub accepted : (t : List Float) (fmc delta : Float) → lookupRefusal t fmc delta ≡ 0 → (length t ≡ tableLength) × (outside fmc ≡ false)
+pub accepted : (t : List Float) (fmc delta : Float) → lookupRefusal t fmc delta ≡ 0 → (length t ≡ tableLength) × (outside fmc ≡ false) × (outside delta ≡ false)
 unfolding lookupRefusal firstRefusal isTable
 accepted t fmc delta e =
     let p = both (isTable t) (anyOutside (fmc ∷ delta ∷ [])) e in
-    (eqb-true (length t) tableLength (p .0), or-left (outside fmc) (anyOutside (delta ∷ [])) (unfold anyOutside in p .1))
+    let q : (outside fmc || (outside delta || false)) ≡ false = unfold anyOutside in p .1 in
+    (eqb-true (length t) tableLength (p .0), or-left (outside fmc) (outside delta || false) q, or-left (outside delta) false (or-right (outside fmc) (outside delta || false) q))
 
 card-from : (a b c : Bool) → _≡_ {A = ℕ} (cond (not a) 7 (cond b 2 (cond c 4 0))) (cond (eqb (plain a b) 0) (cond c 4 0) (plain a b))
 card-from true true c = refl
@@ -51,5 +52,5 @@ before n m e = go (eqb n 0) (eqb-true n 0) e
     go true f h = f refl
     go false f h = h
 
-pub card-accepted : (first last : ℤ) (verdict : ℕ) (t : List Float) (fmc delta : Float) → cardRefusal first last verdict t fmc delta ≡ 0 → (length t ≡ tableLength) × (outside fmc ≡ false)
+pub card-accepted : (first last : ℤ) (verdict : ℕ) (t : List Float) (fmc delta : Float) → cardRefusal first last verdict t fmc delta ≡ 0 → (length t ≡ tableLength) × (outside fmc ≡ false) × (outside delta ≡ false)
 card-accepted first last verdict t fmc delta e = accepted t fmc delta (before (lookupRefusal t fmc delta) _ (rw card-refusal at e))

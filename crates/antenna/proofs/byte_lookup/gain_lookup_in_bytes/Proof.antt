@@ -12,7 +12,7 @@ unfolding lookupNumber lookupValues gainLookupValues
 returns c = (c .before .bytes-refusal .ensures, rw (← c .before .bytes-refusal .ensures, ne-eqb _ 0 (c .if1 .taken)))
 
 locate-requires : tie.Need-locate-requires
-locate-requires c κs = bytes-accepted _ _ _ (sym (c .before .bytes-refusal .ensures) ∙ c .if1 .left) .1
+locate-requires c κs = let a = bytes-accepted _ _ _ (sym (c .before .bytes-refusal .ensures) ∙ c .if1 .left) in (a .1, a .2)
 
 byte-row-at-requires : tie.Need-byte-row-at-requires
 byte-row-at-requires c κs = (bytes-accepted _ _ _ (sym (c .before .before .bytes-refusal .ensures) ∙ c .before .if1 .left) .0, rw (c .locate .ensures) (low-in _ _))

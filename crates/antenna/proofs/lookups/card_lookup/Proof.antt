@@ -23,7 +23,7 @@ returns-2 c =
     (sym (c .before .if1 .left) ∙ e, rw (← e, eq-eqb _ 0 (c .before .if1 .left), ne-eqb _ 0 (c .if2 .taken)))
 
 locate-requires : tie.Need-locate-requires
-locate-requires c κs = card-accepted _ _ _ _ _ _ (sym (c .before .before .card-refusal .ensures) ∙ c .before .if1 .left) .1
+locate-requires c κs = let a = card-accepted _ _ _ _ _ _ (sym (c .before .before .card-refusal .ensures) ∙ c .before .if1 .left) in (a .1, a .2)
 
 card-row-requires : tie.Need-card-row-requires
 card-row-requires c κs = (card-accepted _ _ _ _ _ _ (sym (c .before .before .before .card-refusal .ensures) ∙ c .before .before .if1 .left) .0, rw (c .locate .ensures) (low-in _ _))

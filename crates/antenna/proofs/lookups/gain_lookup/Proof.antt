@@ -12,7 +12,7 @@ unfolding lookupNumber lookupValues gainLookupValues
 returns c = (c .before .lookup-refusal .ensures, rw (← c .before .lookup-refusal .ensures, ne-eqb _ 0 (c .if1 .taken)))
 
 locate-requires : tie.Need-locate-requires
-locate-requires c κs = accepted _ _ _ (sym (c .before .lookup-refusal .ensures) ∙ c .if1 .left) .1
+locate-requires c κs = let a = accepted _ _ _ (sym (c .before .lookup-refusal .ensures) ∙ c .if1 .left) in (a .1, a .2)
 
 row-at-requires : tie.Need-row-at-requires
 row-at-requires c κs = (accepted _ _ _ (sym (c .before .before .lookup-refusal .ensures) ∙ c .before .if1 .left) .0, rw (c .locate .ensures) (low-in _ _))
