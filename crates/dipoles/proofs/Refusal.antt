@@ -1,23 +1,30 @@
--- Refusal 11 arises in a row where, and only where, one of its two integrals is unsettled. Assumes nothing.
-use mathlib.Core.Path.{_≡_, refl}
+-- Refusal 11 arises in a row of types 3 and 4 where, and only where, one of its two integrals is unsettled. Assumes nothing.
+use mathlib.Core.Path.{_≡_, refl, _∙_}
+use mathlib.Core.Logic.{_⊎_, inl, inr}
 use lib.Ieee.{Float}
-use Rattle.single.specs.Single.{_⊠_, num}
-use Rattle.integrals.specs.Cisi.{integralsOf, computedNumber}
-use Rattle.integrals.specs.declared.entry.Computed.{Computed}
-use Rattle.integrals.specs.declared.entry.Computed.the-variants as One
-use Rattle.integrals.specs.Pair.{largerOf, pairOf, integralPair}
-use Rattle.dipoles.specs.Row.{dipoleFrom, dipoleRow, rowNumber}
+use Rattle.integrals.specs.Settled.{settledNumber, IsAnswer}
+use Rattle.integrals.specs.Pair.{pairNumber}
+use Rattle.integrals.specs.declared.pair.IntegralPair.{IntegralPair}
+use Rattle.integrals.specs.declared.pair.IntegralPair.the-variants as Pair
+use Rattle.integrals.proofs.Settled.{answers, pair-number}
+use Rattle.dipoles.specs.Row.{dipoleFrom, dipoleRow, dipoleSettles, dipoleNumber, dipoleValues, zeroDipole}
+use Rattle.dipoles.specs.declared.row.DipoleRow.{DipoleRow}
+use Rattle.dipoles.specs.declared.row.DipoleRow.the-variants as Row
 
-number-from : (fac hwave : Float) (a b : Computed) →
-    rowNumber (dipoleFrom fac hwave (pairOf a b)) ≡ largerOf (computedNumber a) (computedNumber b)
-unfolding rowNumber computedNumber largerOf
-number-from fac hwave (One.Settled v n) (One.Settled w m) = refl
-number-from fac hwave (One.Settled v n) One.Unsettled = refl
-number-from fac hwave One.Unsettled (One.Settled w m) = refl
-number-from fac hwave One.Unsettled One.Unsettled = refl
+of-pair : (fac hwave : Float) (pair : IntegralPair) → dipoleNumber (dipoleFrom fac hwave pair) ≡ pairNumber pair
+unfolding dipoleNumber pairNumber
+of-pair fac hwave (Pair.Settled at2kl atkl turns) = refl
+of-pair fac hwave Pair.Unsettled = refl
 
--- the integrals' numbers are 0 or 11
-pub row-number : (fac hwave : Float) →
-    rowNumber (dipoleRow fac hwave) ≡ largerOf (computedNumber (integralsOf (fac ⊠ num 4 1))) (computedNumber (integralsOf (fac ⊠ num 2 1)))
-unfolding dipoleRow integralPair
-row-number fac hwave = number-from fac hwave (integralsOf (fac ⊠ num 4 1)) (integralsOf (fac ⊠ num 2 1))
+pub dipole-number : (fac hwave : Float) → dipoleNumber (dipoleRow fac hwave) ≡ settledNumber (dipoleSettles fac)
+unfolding dipoleRow dipoleSettles
+dipole-number fac hwave = of-pair fac hwave _ ∙ pair-number _ _
+
+cases : (a : DipoleRow) → (dipoleNumber a ≡ 0) ⊎ (dipoleValues a ≡ zeroDipole)
+unfolding dipoleNumber dipoleValues
+cases (Row.Settled dipole turns) = inl refl
+cases Row.Unsettled = inr refl
+
+pub dipole-answers : (fac hwave : Float) (r : DipoleRow) → r ≡ dipoleRow fac hwave
+    → IsAnswer dipoleNumber dipoleValues zeroDipole (dipoleRow fac hwave) (dipoleSettles fac) r
+dipole-answers fac hwave = answers dipoleNumber dipoleValues zeroDipole cases (dipoleRow fac hwave) (dipoleSettles fac) (dipole-number fac hwave)

@@ -1,5 +1,6 @@
 -- Document 01 section 4, types 3 and 4: what holds for a whole row. Definitions only.
 use Prim.Native.Nat.{ℕ}
+use mathlib.Core.Bool.{Bool}
 use lib.Ieee.{Float}
 use Rattle.single.specs.Single.{_⊞_, _⊟_, _⊠_, _⊘_, num}
 use Rattle.elementary.specs.Trigonometric.{cosine, tangent}
@@ -9,7 +10,8 @@ use Rattle.integrals.specs.declared.pair.IntegralPair.{IntegralPair}
 use Rattle.integrals.specs.declared.pair.IntegralPair.the-variants as Pair
 use Rattle.dipoles.specs.declared.row.DipoleRow.{DipoleRow}
 use Rattle.dipoles.specs.declared.row.DipoleRow.the-variants as Row
-use Rattle.integrals.specs.Pair.{integralPair}
+use Rattle.integrals.specs.Pair.{integralPair, pairSettles}
+use Rattle.dipoles.specs.declared.row.Dipole.{Dipole}
 
 -- the 1994 rewrite divides by 1
 abbrev pub sin2kl : Float
@@ -37,7 +39,17 @@ dipoleFrom fac hwave Pair.Unsettled = Row.Unsettled
 unfoldable pub dipoleRow : Float → Float → DipoleRow
 dipoleRow fac hwave = dipoleFrom fac hwave (integralPair (fac ⊠ num 4 1) (fac ⊠ num 2 1))
 
--- document 01's number of a row's answer
-unfoldable pub rowNumber : DipoleRow → ℕ
-rowNumber (Row.Settled dipole turns) = 0
-rowNumber Row.Unsettled = 11
+unfoldable pub dipoleSettles : Float → Bool
+dipoleSettles fac = pairSettles (fac ⊠ num 4 1) (fac ⊠ num 2 1)
+
+-- document 01's number and values of a row's answer: zeros where it is refused
+unfoldable pub dipoleNumber : DipoleRow → ℕ
+dipoleNumber (Row.Settled dipole turns) = 0
+dipoleNumber Row.Unsettled = 11
+
+abbrev pub zeroDipole : Dipole
+zeroDipole = record { fac = num 0 1; cfac = num 0 1; scale = num 0 1; hwave2 = num 0 1 }
+
+unfoldable pub dipoleValues : DipoleRow → Dipole
+dipoleValues (Row.Settled dipole turns) = dipole
+dipoleValues Row.Unsettled = zeroDipole

@@ -23,6 +23,7 @@ use Rattle.rows.proofs.Height.{OfRow, row-own}
 use Rattle.cells.specs.Cell.{looksUp, cellBy, cellOf, cellGain, powerCell, curtainCell}
 use Rattle.gain_core.specs.Core.{aboveFrom, aboveGround, groundFrom, atGround, workOf, workNumber}
 use Rattle.gain_core.specs.declared.core.Call.{Call}
+use Rattle.gain_core.proofs.Unsettled.{work-number}
 use Rattle.gain_core.specs.declared.core.Worked.{Worked}
 use Rattle.gain_core.specs.declared.core.Worked.the-variants.{Settled, Unsettled}
 
@@ -100,20 +101,9 @@ up-ground-same antenna fmc e h h′ u = rw u (go (rowOf antenna fmc))
     go R.Unsettled = refl
 
 -- ---- whether 11 arises does not depend on the carried height
-ground-number : (antenna : Antenna) (fmc : Float) (e : Elevation) (h h′ : Float) (b : Bool) → looksUp (antenna .kop) ≡ b
-    → workNumber (atGround antenna fmc e h) ≡ workNumber (atGround antenna fmc e h′)
-ground-number antenna fmc e h h′ true u = ap workNumber (up-ground-same antenna fmc e h h′ u)
-ground-number antenna fmc e h h′ false u = ap workNumber (ground-value antenna fmc e h u) ∙ sym (ap workNumber (ground-value antenna fmc e h′ u))
-
 pub number-same : (antenna : Antenna) (fmc delta : Float) (e : Elevation) (h h′ : Float)
     → workNumber (workOf antenna fmc delta e h) ≡ workNumber (workOf antenna fmc delta e h′)
-number-same antenna fmc delta e h h′ = go (le delta (num 0 1)) refl
-  where
-    go : (b : Bool) → le delta (num 0 1) ≡ b → workNumber (workOf antenna fmc delta e h) ≡ workNumber (workOf antenna fmc delta e h′)
-    go true t =
-        ap workNumber (below antenna fmc delta e h t) ∙ ground-number antenna fmc e h h′ (looksUp (antenna .kop)) refl
-        ∙ sym (ap workNumber (below antenna fmc delta e h′ t))
-    go false t = ap workNumber (above antenna fmc delta e h t ∙ sym (above antenna fmc delta e h′ t))
+number-same antenna fmc delta e h h′ = work-number antenna fmc e delta h ∙ sym (work-number antenna fmc e delta h′)
 
 -- ---- outside types 2, 3 and 4 a gain that is a number is above -30, or is -30 plus the call's own efficiency
 abbrev pub AboveFloor : Float → Float → Type 0

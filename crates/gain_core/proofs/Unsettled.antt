@@ -1,35 +1,72 @@
 -- Refusal 11 arises in the work where, and only where, its row's pattern is unsettled (patterns/proofs/Unsettled.antt): above the ground, and at it for types 3 and 4 alone. Assumes nothing.
-use mathlib.Core.Path.{_≡_, refl, ap}
-use mathlib.Core.Bool.{true, false}
-use lib.Ieee.{Float}
+use mathlib.Core.Path.{_≡_, refl, _∙_}
+use mathlib.Core.Bool.{Bool, true, false}
+use mathlib.Core.Logic.{_⊎_, inl, inr}
+use lib.Ieee.{Float, le}
+use Rattle.single.specs.Single.{num}
+use Rattle.integrals.specs.Settled.{settledNumber, IsAnswer}
+use Rattle.integrals.proofs.Settled.{answers}
 use Rattle.reflection.specs.Angles.{waveOf}
 use Rattle.reflection.specs.declared.angles.Elevation.{Elevation}
-use Rattle.patterns.specs.Pattern.{patternOf}
-use Rattle.rows.specs.Row.{rowFrom, rowOf}
+use Rattle.patterns.specs.Pattern.{patternSettles}
 use Rattle.patterns.specs.declared.antenna.Antenna.{Antenna}
-use Rattle.patterns.specs.declared.pattern.PatternAnswer.{PatternAnswer}
-use Rattle.patterns.specs.declared.pattern.PatternAnswer.the-variants as P
-use Rattle.patterns.proofs.Unsettled.{patternNumber}
+use Rattle.rows.specs.Row.{rowOf, rowNumber}
+use Rattle.rows.specs.declared.row.RowAnswer.{RowAnswer}
+use Rattle.rows.specs.declared.row.RowAnswer.the-variants as R
+use Rattle.rows.proofs.Unsettled.{row-number}
 use Rattle.cells.specs.Cell.{looksUp}
-use Rattle.gain_core.specs.Core.{aboveFrom, aboveGround, groundFrom, atGround, workNumber}
-use Rattle.gain_core.proofs.Laws.{ground-value}
+use Rattle.gain_core.specs.Core.{aboveFrom, aboveGround, groundFrom, atGround, workOf}
+use Rattle.gain_core.specs.Core.{groundSettles, workSettles, workNumber, workValues, zeroValues}
+use Rattle.gain_core.specs.declared.core.Worked.{Worked}
+use Rattle.gain_core.specs.declared.core.Worked.the-variants.{Settled, Unsettled}
+
+of-row-above : (antenna : Antenna) (delta : Float) (e : Elevation) (r : RowAnswer) → workNumber (aboveFrom antenna delta e r) ≡ rowNumber r
+unfolding rowNumber
+of-row-above antenna delta e (R.Settled row turns) = refl
+of-row-above antenna delta e R.Unsettled = refl
+
+of-row-ground : (antenna : Antenna) (e : Elevation) (height : Float) (r : RowAnswer) → workNumber (groundFrom antenna e height r) ≡ rowNumber r
+unfolding rowNumber
+of-row-ground antenna e height (R.Settled row turns) = refl
+of-row-ground antenna e height R.Unsettled = refl
+
+cases : (a : Worked) → (workNumber a ≡ 0) ⊎ (workValues a ≡ zeroValues)
+cases (Settled call) = inl refl
+cases Unsettled = inr refl
+
+work-answers : (whole : Worked) (settles : Bool) → workNumber whole ≡ settledNumber settles
+    → (r : Worked) → r ≡ whole → IsAnswer workNumber workValues zeroValues whole settles r
+work-answers = answers workNumber workValues zeroValues cases
 
 module _ (antenna : Antenna) (fmc : Float) (e : Elevation) where
-  pub above-number : (delta : Float) → workNumber (aboveGround antenna fmc delta e) ≡ patternNumber (patternOf antenna (waveOf fmc))
-  unfolding aboveGround rowOf
-  above-number delta = go (patternOf antenna (waveOf fmc))
-    where
-      go : (a : PatternAnswer) → workNumber (aboveFrom antenna delta e (rowFrom antenna fmc a)) ≡ patternNumber a
-      go (P.Settled pattern turns) = refl
-      go P.Unsettled = refl
+  pub above-number : (delta : Float) → workNumber (aboveGround antenna fmc delta e) ≡ settledNumber (patternSettles antenna (waveOf fmc))
+  unfolding aboveGround
+  above-number delta = of-row-above antenna delta e _ ∙ row-number antenna fmc
 
-  pub up-ground-number : (height : Float) → looksUp (antenna .kop) ≡ true → workNumber (atGround antenna fmc e height) ≡ patternNumber (patternOf antenna (waveOf fmc))
-  unfolding atGround rowOf
-  up-ground-number height u = rw u (go (patternOf antenna (waveOf fmc)))
+  pub ground-number : (height : Float) → workNumber (atGround antenna fmc e height) ≡ settledNumber (groundSettles antenna fmc)
+  unfolding atGround groundSettles
+  ground-number height = go (looksUp (antenna .kop)) refl
     where
-      go : (a : PatternAnswer) → workNumber (groundFrom antenna e height (rowFrom antenna fmc a)) ≡ patternNumber a
-      go (P.Settled pattern turns) = refl
-      go P.Unsettled = refl
+      go : (b : Bool) → looksUp (antenna .kop) ≡ b → workNumber (atGround antenna fmc e height) ≡ settledNumber (groundSettles antenna fmc)
+      go true u = rw u (of-row-ground antenna e height _ ∙ row-number antenna fmc)
+      go false u = rw u refl
 
-  pub ground-accepted : (height : Float) → looksUp (antenna .kop) ≡ false → workNumber (atGround antenna fmc e height) ≡ 0
-  ground-accepted height u = ap workNumber (ground-value antenna fmc e height u)
+  pub work-number : (delta height : Float) → workNumber (workOf antenna fmc delta e height) ≡ settledNumber (workSettles antenna fmc delta)
+  unfolding workOf workSettles
+  work-number delta height = go (le delta (num 0 1)) refl
+    where
+      go : (b : Bool) → le delta (num 0 1) ≡ b → workNumber (workOf antenna fmc delta e height) ≡ settledNumber (workSettles antenna fmc delta)
+      go true t = rw t (ground-number height)
+      go false t = rw t (above-number delta)
+
+  pub above-answers : (delta : Float) (r : Worked) → r ≡ aboveGround antenna fmc delta e
+      → IsAnswer workNumber workValues zeroValues (aboveGround antenna fmc delta e) (patternSettles antenna (waveOf fmc)) r
+  above-answers delta = work-answers (aboveGround antenna fmc delta e) (patternSettles antenna (waveOf fmc)) (above-number delta)
+
+  pub ground-answers : (height : Float) (r : Worked) → r ≡ atGround antenna fmc e height
+      → IsAnswer workNumber workValues zeroValues (atGround antenna fmc e height) (groundSettles antenna fmc) r
+  ground-answers height = work-answers (atGround antenna fmc e height) (groundSettles antenna fmc) (ground-number height)
+
+  pub all-answers : (delta height : Float) (r : Worked) → r ≡ workOf antenna fmc delta e height
+      → IsAnswer workNumber workValues zeroValues (workOf antenna fmc delta e height) (workSettles antenna fmc delta) r
+  all-answers delta height = work-answers (workOf antenna fmc delta e height) (workSettles antenna fmc delta) (work-number delta height)

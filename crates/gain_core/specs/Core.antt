@@ -1,12 +1,14 @@
 -- Document 01 section 6: `iongain` within the limits, by value. The ground path takes the carried height, the path above it does not. Definitions only.
 use Prim.Native.Nat.{ℕ}
-use mathlib.Core.Bool.{cond}
+use mathlib.Core.Bool.{Bool, true, cond}
 use lib.Ieee.{Float, le}
 use Rattle.single.specs.Single.{num}
+use Rattle.reflection.specs.Angles.{waveOf}
 use Rattle.reflection.specs.declared.angles.Elevation.{Elevation}
 use Rattle.finish.specs.Finish.{groundOf}
 use Rattle.rows.specs.Row.{rowOf}
 use Rattle.cells.specs.Cell.{straightUp, blendOf, looksUp, cellGain}
+use Rattle.patterns.specs.Pattern.{patternSettles}
 use Rattle.patterns.specs.declared.antenna.Antenna.{Antenna}
 use Rattle.rows.specs.declared.row.Row.{Row}
 use Rattle.rows.specs.declared.row.RowAnswer.{RowAnswer}
@@ -45,7 +47,14 @@ unfoldable pub workOf : Antenna → Float → Float → Elevation → Float → 
 workOf antenna fmc delta e height =
     cond (le delta (num 0 1)) (atGround antenna fmc e height) (aboveGround antenna fmc delta e)
 
--- document 01's number, gain, efficiency and height left of the work
+-- at the ground types 3 and 4 alone take the row
+unfoldable pub groundSettles : Antenna → Float → Bool
+groundSettles antenna fmc = cond (looksUp (antenna .kop)) (patternSettles antenna (waveOf fmc)) true
+
+unfoldable pub workSettles : Antenna → Float → Float → Bool
+workSettles antenna fmc delta = cond (le delta (num 0 1)) (groundSettles antenna fmc) (patternSettles antenna (waveOf fmc))
+
+-- document 01's number, gain, efficiency and height left of the work: zeros and the height met where it is refused
 abbrev pub workNumber : Worked → ℕ
 workNumber (Settled call) = 0
 workNumber Unsettled = 11
@@ -61,3 +70,10 @@ workEfficiency Unsettled = num 0 1
 abbrev pub workHeight : Worked → Float → Float
 workHeight (Settled call) height = call .height
 workHeight Unsettled height = height
+
+-- gain and efficiency
+abbrev pub zeroValues : Float × Float
+zeroValues = (num 0 1, num 0 1)
+
+abbrev pub workValues : Worked → Float × Float
+workValues w = (workGain w, workEfficiency w)

@@ -1,9 +1,10 @@
 -- Document 01 section 3: `cisi`, with its refusals 6 and 11. Definitions only.
 use Prim.Native.Nat.{ℕ}
-use mathlib.Core.Bool.{Bool, cond, _&&_}
+use mathlib.Core.Bool.{Bool, true, cond, _&&_}
 use lib.Ieee.{Float, lt, le}
 use Rattle.single.specs.Single.{num}
-use Rattle.integrals.specs.Series.{ciSeries, siSeries}
+use Rattle.integrals.specs.Settled.{settledNumber}
+use Rattle.integrals.specs.Series.{ciSeries, siSeries, ciSettles, siSettles}
 use Rattle.integrals.specs.Rational.{rationalOf}
 use Rattle.integrals.specs.declared.series.SeriesSum.{SeriesSum}
 use Rattle.integrals.specs.declared.series.SeriesSum.the-variants as Sum
@@ -22,6 +23,10 @@ bothOf Sum.Unsettled b = Core.Unsettled
 -- series below 1, rational form from 1
 unfoldable pub integralsOf : Float → Computed
 integralsOf x = cond (lt x (num 1 1)) (bothOf (ciSeries x) (siSeries x)) (Core.Settled (rationalOf x) (record { ci = 0; si = 0 }))
+
+-- the rational form always settles
+unfoldable pub integralsSettle : Float → Bool
+integralsSettle x = cond (lt x (num 1 1)) (ciSettles x && siSettles x) true
 
 -- document 01's number and values of what was computed
 abbrev pub zeros : Integrals
@@ -51,7 +56,7 @@ unfoldable pub inLimits : Float → Bool
 inLimits x = le (num 0 1) x && le x (num 1048576 1)
 
 unfoldable pub cisiNumber : Float → ℕ
-cisiNumber x = cond (inLimits x) (computedNumber (integralsOf x)) 6
+cisiNumber x = cond (inLimits x) (settledNumber (integralsSettle x)) 6
 
 unfoldable pub cisiValues : Float → Integrals
 cisiValues x = cond (inLimits x) (computedValues (integralsOf x)) zeros

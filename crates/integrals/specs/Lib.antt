@@ -1,3 +1,4 @@
+pub mod Settled
 pub mod Series
 pub mod Rational
 pub mod Cisi

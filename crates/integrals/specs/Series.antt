@@ -1,6 +1,6 @@
 -- Document 01 section 3: the two series, turn by turn. Definitions only.
 use Prim.Native.Nat.{ℕ, zero, suc, _+_}
-use mathlib.Core.Bool.{Bool, true, false}
+use mathlib.Core.Bool.{Bool, true, false, _||_}
 use lib.Ieee.{Float, neg, le}
 use Rattle.single.specs.Single.{_⊞_, _⊟_, _⊠_, _⊘_, num}
 use Rattle.elementary.specs.Basic.{absolute}
@@ -41,3 +41,27 @@ ciSeries x = let sq = x ⊠ x in seriesOf (euler ⊞ logarithm x) (neg sq ⊘ nu
 
 unfoldable pub siSeries : Float → SeriesSum
 siSeries x = seriesOf (num 0 1) x (num 3 1) (x ⊠ x)
+
+-- ---- refusal 11
+-- a small term comes within the turns left
+unfoldable pub settlesWithin : ℕ → Float → Float → Float → Bool
+settlesWithin zero term g sq = false
+settlesWithin (suc left) term g sq =
+    let next = nextTerm term sq g in small next || settlesWithin left next (g ⊞ num 2 1) sq
+
+unfoldable pub ciSettles : Float → Bool
+unfolding settlesWithin
+ciSettles x = let sq = x ⊠ x in settlesWithin mostTurns (neg sq ⊘ num 4 1) (num 4 1) sq
+
+unfoldable pub siSettles : Float → Bool
+unfolding settlesWithin
+siSettles x = settlesWithin mostTurns x (num 3 1) (x ⊠ x)
+
+-- document 01's number of a series' answer, and its sum: 0 where it is refused
+unfoldable pub seriesNumber : SeriesSum → ℕ
+seriesNumber (Settled sum turns) = 0
+seriesNumber Unsettled = 11
+
+unfoldable pub seriesValue : SeriesSum → Float
+seriesValue (Settled sum turns) = sum
+seriesValue Unsettled = num 0 1

@@ -1,6 +1,7 @@
 // The integrals of two arguments, with the largest turns that either took.
 ghost use mathlib.Core.Path.{_≡_};
-ghost use Rattle.integrals.specs.Pair.{largerOf, largerTurns, integralPair};
+ghost use Rattle.integrals.specs.Pair.{largerOf, largerTurns, integralPair, pairSettles, pairNumber, pairValues, zeroPair};
+ghost use Rattle.integrals.specs.Settled.{IsAnswer};
 use crate::entry::Computed;
 use crate::entry::Turns;
 use crate::entry::integrals_of;
@@ -26,7 +27,7 @@ fn larger_turns(a: Turns, b: Turns) -> Turns
 }
 
 pub fn integral_pair(x: f32, y: f32) -> IntegralPair
-    ensures { λ r. ⌜ r ≡ integralPair x y ⌝ }
+    ensures { λ r. ⌜ IsAnswer pairNumber pairValues zeroPair (integralPair x y) (pairSettles x y) r ⌝ }
 {
     let Computed::Settled(first, n) = integrals_of(x) else {
         return IntegralPair::Unsettled;

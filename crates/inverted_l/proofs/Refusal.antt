@@ -1,25 +1,32 @@
 -- Refusal 11 arises in a row of type 8 where, and only where, one of its two integrals is unsettled. Assumes nothing.
-use mathlib.Core.Path.{_≡_, refl}
+use mathlib.Core.Path.{_≡_, refl, _∙_}
+use mathlib.Core.Logic.{_⊎_, inl, inr}
 use lib.Ieee.{Float}
-use Rattle.single.specs.Single.{_⊞_}
-use Rattle.integrals.specs.Cisi.{integralsOf, computedNumber}
-use Rattle.integrals.specs.declared.entry.Computed.{Computed}
-use Rattle.integrals.specs.declared.entry.Computed.the-variants as One
-use Rattle.integrals.specs.Pair.{largerOf, pairOf, integralPair}
-use Rattle.resistance.specs.Resistance.{resistanceBy, resistanceOf}
-use Rattle.inverted_l.specs.InvertedL.{rowFrom, invertedLRow, invertedLNumber}
+use Rattle.integrals.specs.Settled.{settledNumber, IsAnswer}
+use Rattle.integrals.proofs.Settled.{answers}
+use Rattle.resistance.specs.Resistance.{resistanceNumber}
+use Rattle.resistance.specs.declared.resistance.Resistance.{Resistance}
+use Rattle.resistance.specs.declared.resistance.Resistance.the-variants as Ra
+use Rattle.resistance.proofs.Refusal.{resistance-number}
+use Rattle.inverted_l.specs.InvertedL.{rowFrom, invertedLRow, invertedLSettles, invertedLNumber, invertedLValues, zeroInvertedL}
+use Rattle.inverted_l.specs.declared.inverted_l.InvertedLRow.{InvertedLRow}
+use Rattle.inverted_l.specs.declared.inverted_l.InvertedLRow.the-variants as Row
 
-inverted-from : (fac2 hwave d z : Float) (a b : Computed) →
-    invertedLNumber (rowFrom fac2 hwave (resistanceBy d z (pairOf a b))) ≡ largerOf (computedNumber a) (computedNumber b)
-unfolding invertedLNumber computedNumber largerOf
-inverted-from fac2 hwave d z (One.Settled v n) (One.Settled w m) = refl
-inverted-from fac2 hwave d z (One.Settled v n) One.Unsettled = refl
-inverted-from fac2 hwave d z One.Unsettled (One.Settled w m) = refl
-inverted-from fac2 hwave d z One.Unsettled One.Unsettled = refl
+of-resistance : (fac2 hwave : Float) (ra : Resistance) → invertedLNumber (rowFrom fac2 hwave ra) ≡ resistanceNumber ra
+unfolding invertedLNumber resistanceNumber
+of-resistance fac2 hwave (Ra.Settled ra turns) = refl
+of-resistance fac2 hwave Ra.Unsettled = refl
 
--- the integrals' numbers are 0 or 11
-pub inverted-l-number : (fac hwave : Float) →
-    let d = hwave ⊞ hwave in
-    invertedLNumber (invertedLRow fac hwave) ≡ largerOf (computedNumber (integralsOf d)) (computedNumber (integralsOf (d ⊞ d)))
-unfolding invertedLRow resistanceOf integralPair
-inverted-l-number fac hwave = inverted-from _ _ _ _ (integralsOf _) (integralsOf _)
+pub inverted-l-number : (fac hwave : Float) → invertedLNumber (invertedLRow fac hwave) ≡ settledNumber (invertedLSettles hwave)
+unfolding invertedLRow invertedLSettles
+inverted-l-number fac hwave = of-resistance _ _ _ ∙ resistance-number _ _
+
+cases : (a : InvertedLRow) → (invertedLNumber a ≡ 0) ⊎ (invertedLValues a ≡ zeroInvertedL)
+unfolding invertedLNumber invertedLValues
+cases (Row.Settled row turns) = inl refl
+cases Row.Unsettled = inr refl
+
+pub inverted-l-answers : (fac hwave : Float) (r : InvertedLRow) → r ≡ invertedLRow fac hwave
+    → IsAnswer invertedLNumber invertedLValues zeroInvertedL (invertedLRow fac hwave) (invertedLSettles hwave) r
+inverted-l-answers fac hwave =
+    answers invertedLNumber invertedLValues zeroInvertedL cases (invertedLRow fac hwave) (invertedLSettles hwave) (inverted-l-number fac hwave)

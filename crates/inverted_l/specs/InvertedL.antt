@@ -1,6 +1,6 @@
 -- Document 01 section 4: type 8, the inverted L of `iongain2`. Definitions only.
 use Prim.Native.Nat.{ℕ}
-use mathlib.Core.Bool.{cond}
+use mathlib.Core.Bool.{Bool, cond}
 use lib.Ieee.{Float, eq, lt}
 use Rattle.single.specs.Single.{_⊞_, _⊟_, _⊠_, _⊘_, num}
 use Rattle.elementary.specs.Basic.{square}
@@ -10,6 +10,7 @@ use Rattle.elementary.specs.Logarithm.{logarithm10}
 use Rattle.reflection.specs.declared.angles.Azimuth.{Azimuth}
 use Rattle.reflection.specs.declared.angles.Elevation.{Elevation}
 use Rattle.reflection.specs.declared.ground.Ground.{Ground}
+use Rattle.integrals.specs.Pair.{pairSettles}
 use Rattle.resistance.specs.Resistance.{resistanceOf}
 use Rattle.resistance.specs.declared.resistance.Resistance.{Resistance}
 use Rattle.resistance.specs.declared.resistance.Resistance.the-variants as Ra
@@ -46,10 +47,22 @@ invertedLRow fac hwave =
     let hac2 = hwave ⊞ hwave in
     rowFrom (fac ⊠ num 2 1) hwave (resistanceOf hac2 (hac2 ⊞ hac2))
 
--- document 01's number of a row's answer
+unfoldable pub invertedLSettles : Float → Bool
+invertedLSettles hwave = let hac2 = hwave ⊞ hwave in pairSettles hac2 (hac2 ⊞ hac2)
+
+-- document 01's number and values of a row's answer: zeros where it is refused
 unfoldable pub invertedLNumber : InvertedLRow → ℕ
 invertedLNumber (Row.Settled row turns) = 0
 invertedLNumber Row.Unsettled = 11
+
+abbrev pub zeroInvertedL : InvertedL
+zeroInvertedL =
+    let o = num 0 1 in
+    record { fac2 = o; hwave = o; cfac2 = o; sfac2 = o; csum = o; ssum = o; ra = o; eff8 = o }
+
+unfoldable pub invertedLValues : InvertedLRow → InvertedL
+invertedLValues (Row.Settled row turns) = row
+invertedLValues Row.Unsettled = zeroInvertedL
 
 -- g2, from u, hk, c and sphip
 unfoldable pub g2Of : InvertedL → Azimuth → Elevation → Ground → Float

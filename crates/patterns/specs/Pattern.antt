@@ -1,5 +1,6 @@
 -- Document 01 section 4: the choice of pattern by type, as the match of `iongain2`. Definitions only.
-use mathlib.Core.Bool.{cond, _||_}
+use Prim.Native.Nat.{ℕ}
+use mathlib.Core.Bool.{Bool, true, cond, _||_}
 use lib.ListN.{getD}
 use lib.Ieee.{Float, nan}
 use Rattle.single.specs.Single.{num}
@@ -15,12 +16,12 @@ use Rattle.interlaced.specs.Interlaced.{offsetOf, interlacedOf}
 use Rattle.slopes.specs.Slope.{veeSlope, rhombicSlope}
 use Rattle.sloping_patterns.specs.Vee.{veeRain}
 use Rattle.sloping_patterns.specs.Rhombic.{slopingRhombicRain}
-use Rattle.dipoles.specs.Row.{dipoleRow}
+use Rattle.dipoles.specs.Row.{dipoleRow, dipoleSettles}
 use Rattle.dipoles.specs.Pattern.{dipoleRain}
 use Rattle.dipoles.specs.declared.row.DipoleRow.{DipoleRow}
 use Rattle.dipoles.specs.declared.row.DipoleRow.the-variants as D
-use Rattle.verticals.specs.Monopole.{monopoleRow, monopoleRain}
-use Rattle.inverted_l.specs.InvertedL.{invertedLRow, invertedLRain}
+use Rattle.verticals.specs.Monopole.{monopoleRow, monopoleSettles, monopoleRain}
+use Rattle.inverted_l.specs.InvertedL.{invertedLRow, invertedLSettles, invertedLRain}
 use Rattle.verticals.specs.declared.monopole.MonopoleRow.{MonopoleRow}
 use Rattle.verticals.specs.declared.monopole.MonopoleRow.the-variants as M
 use Rattle.inverted_l.specs.declared.inverted_l.InvertedLRow.{InvertedLRow}
@@ -78,6 +79,24 @@ patternOf antenna wave =
     (cond (isType kop 3 || isType kop 4) (dipoleOf fac hwave)
     (cond (isType kop 2 || isType kop 5) (monopoleFor (antenna .leg) wave)
     (settledAt P.Other))))))))
+
+-- types 3 and 4, 2 and 5, and 8 take integrals; any other settles
+unfoldable pub patternSettles : Antenna → Float → Bool
+patternSettles antenna wave =
+    let kop = antenna .kop in
+    cond (isType kop 3 || isType kop 4) (dipoleSettles (legOf (antenna .leg) wave .fac))
+    (cond (isType kop 2 || isType kop 5) (monopoleSettles (antenna .leg) wave)
+    (cond (isType kop 8) (invertedLSettles (heightOf (antenna .height) wave .hwave))
+    true))
+
+-- document 01's number of an answer, and its pattern: none, of power 0, where it is refused
+unfoldable pub patternNumber : PatternAnswer → ℕ
+patternNumber (Settled pattern turns) = 0
+patternNumber Unsettled = 11
+
+unfoldable pub patternValue : PatternAnswer → Pattern
+patternValue (Settled pattern turns) = pattern
+patternValue Unsettled = P.Other
 
 -- `rain` before label 385. The curtain's is in dB already: see `curtainCell`, cells/specs/Cell.antt
 unfoldable pub powerOf : Pattern → Azimuth → Elevation → Ground → Float

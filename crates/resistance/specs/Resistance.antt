@@ -1,4 +1,5 @@
 -- Document 01 section 4: types 2, 5 and 8's radiation resistance `ra`. Definitions only.
+use Prim.Native.Nat.{ℕ}
 use lib.Ieee.{Float, neg}
 use Rattle.single.specs.Single.{_⊞_, _⊟_, _⊠_, num}
 use Rattle.elementary.specs.Trigonometric.{sine, cosine}
@@ -27,3 +28,12 @@ resistanceBy d z Two.Unsettled = Ra.Unsettled
 
 unfoldable pub resistanceOf : Float → Float → Resistance
 resistanceOf d z = resistanceBy d z (integralPair d z)
+
+-- document 01's number and value of a resistance: 0 where it is refused
+unfoldable pub resistanceNumber : Resistance → ℕ
+resistanceNumber (Ra.Settled ra turns) = 0
+resistanceNumber Ra.Unsettled = 11
+
+unfoldable pub resistanceValue : Resistance → Float
+resistanceValue (Ra.Settled ra turns) = ra
+resistanceValue Ra.Unsettled = num 0 1

@@ -1,2 +1,3 @@
 pub mod Height
 pub mod CurtainFloor
+pub mod Unsettled

@@ -1,6 +1,7 @@
 -- Document 01 sections 4 to 6: what `iongain2` takes from the antenna and the MHz alone. Definitions only.
+use Prim.Native.Nat.{ℕ}
 use mathlib.Core.Bool.{cond, _||_}
-use lib.IntN.{ℤ}
+use lib.IntN.{ℤ, pos}
 use lib.ListN.{getD}
 use lib.Ieee.{Float, nan}
 use Rattle.single.specs.Single.{num}
@@ -18,6 +19,7 @@ use Rattle.patterns.specs.declared.pattern.Pattern.{Pattern}
 use Rattle.patterns.specs.declared.pattern.Pattern.the-variants as P
 use Rattle.patterns.specs.declared.pattern.PatternAnswer.{PatternAnswer}
 use Rattle.patterns.specs.declared.pattern.PatternAnswer.the-variants as A
+use Rattle.rows.specs.declared.row.Row.{Row}
 use Rattle.rows.specs.declared.row.RowAnswer.{RowAnswer}
 use Rattle.rows.specs.declared.row.RowAnswer.the-variants.{Settled, Unsettled}
 
@@ -61,3 +63,25 @@ rowFrom antenna fmc A.Unsettled = Unsettled
 
 unfoldable pub rowOf : Antenna → Float → RowAnswer
 rowOf antenna fmc = rowFrom antenna fmc (patternOf antenna (waveOf fmc))
+
+-- document 01's number and values of a row's answer: zeros and no pattern where it is refused
+unfoldable pub rowNumber : RowAnswer → ℕ
+rowNumber (Settled row turns) = 0
+rowNumber Unsettled = 11
+
+abbrev pub zeroRow : Row
+zeroRow =
+    let o = num 0 1 in
+    record {
+      kop = pos 0;
+      pattern = P.Other;
+      soil = record { er = o; x = o; u = o; v = o; asxv = o };
+      eff = o;
+      sok = o;
+      x = o;
+      threshold = o;
+    }
+
+unfoldable pub rowValues : RowAnswer → Row
+rowValues (Settled row turns) = row
+rowValues Unsettled = zeroRow

@@ -1,6 +1,9 @@
 // What holds for a row: everything that the antenna and the MHz give.
 ghost use mathlib.Core.Path.{_≡_};
-ghost use Rattle.rows.specs.Row.{offsetFor, heightFor, eff8For, rowOf};
+ghost use Rattle.integrals.specs.Settled.{IsAnswer};
+ghost use Rattle.reflection.specs.Angles.{waveOf};
+ghost use Rattle.patterns.specs.Pattern.{patternSettles};
+ghost use Rattle.rows.specs.Row.{offsetFor, heightFor, eff8For, rowOf, rowNumber, rowValues, zeroRow};
 use integrals::Turns;
 use parameters::IoncapParams;
 use parameters::Length;
@@ -64,7 +67,7 @@ fn eff8_for(pattern: Pattern) -> f32
 }
 
 pub fn row_of(antenna: Antenna, fmc: f32) -> RowAnswer
-    ensures { λ r. ⌜ r ≡ rowOf antenna fmc ⌝ }
+    ensures { λ r. ⌜ IsAnswer rowNumber rowValues zeroRow (rowOf antenna fmc) (patternSettles antenna (waveOf fmc)) r ⌝ }
 {
     let wave = reflection::wave_of(fmc);
     let PatternAnswer::Settled(pattern, turns) = pattern_of(antenna, wave) else {

@@ -1,27 +1,33 @@
 -- Refusal 11 arises in a row of types 2 and 5 where, and only where, one of its two integrals is unsettled. Assumes nothing.
-use mathlib.Core.Path.{_≡_, refl}
+use mathlib.Core.Path.{_≡_, refl, _∙_}
+use mathlib.Core.Logic.{_⊎_, inl, inr}
 use lib.Ieee.{Float}
-use Rattle.single.specs.Single.{_⊠_, num}
-use Rattle.parameters.specs.Length.{monopoleOf}
 use Rattle.parameters.specs.declared.length.Length.{Length}
-use Rattle.integrals.specs.Cisi.{integralsOf, computedNumber}
-use Rattle.integrals.specs.declared.entry.Computed.{Computed}
-use Rattle.integrals.specs.declared.entry.Computed.the-variants as One
-use Rattle.integrals.specs.Pair.{largerOf, pairOf, integralPair}
-use Rattle.resistance.specs.Resistance.{resistanceBy, resistanceOf}
-use Rattle.verticals.specs.Monopole.{monopoleFrom, monopoleRow, monopoleNumber}
+use Rattle.integrals.specs.Settled.{settledNumber, IsAnswer}
+use Rattle.integrals.proofs.Settled.{answers}
+use Rattle.resistance.specs.Resistance.{resistanceNumber}
+use Rattle.resistance.specs.declared.resistance.Resistance.{Resistance}
+use Rattle.resistance.specs.declared.resistance.Resistance.the-variants as Ra
+use Rattle.resistance.proofs.Refusal.{resistance-number}
+use Rattle.verticals.specs.Monopole.{monopoleFrom, monopoleRow, monopoleSettles, monopoleNumber, monopoleValues, zeroMonopole}
+use Rattle.verticals.specs.declared.monopole.MonopoleRow.{MonopoleRow}
+use Rattle.verticals.specs.declared.monopole.MonopoleRow.the-variants as Row
 
-monopole-from : (el1 x d z : Float) (a b : Computed) →
-    monopoleNumber (monopoleFrom el1 x (resistanceBy d z (pairOf a b))) ≡ largerOf (computedNumber a) (computedNumber b)
-unfolding monopoleNumber computedNumber largerOf
-monopole-from el1 x d z (One.Settled v n) (One.Settled w m) = refl
-monopole-from el1 x d z (One.Settled v n) One.Unsettled = refl
-monopole-from el1 x d z One.Unsettled (One.Settled w m) = refl
-monopole-from el1 x d z One.Unsettled One.Unsettled = refl
+of-resistance : (el1 x : Float) (ra : Resistance) → monopoleNumber (monopoleFrom el1 x ra) ≡ resistanceNumber ra
+unfolding monopoleNumber resistanceNumber
+of-resistance el1 x (Ra.Settled ra turns) = refl
+of-resistance el1 x Ra.Unsettled = refl
 
--- the integrals' numbers are 0 or 11
-pub monopole-number : (leg : Length) (wave : Float) →
-    let d = num 2 1 ⊠ monopoleOf leg wave .a in
-    monopoleNumber (monopoleRow leg wave) ≡ largerOf (computedNumber (integralsOf d)) (computedNumber (integralsOf (num 2 1 ⊠ d)))
-unfolding monopoleRow resistanceOf integralPair
-monopole-number leg wave = monopole-from _ _ _ _ (integralsOf _) (integralsOf _)
+pub monopole-number : (leg : Length) (wave : Float) → monopoleNumber (monopoleRow leg wave) ≡ settledNumber (monopoleSettles leg wave)
+unfolding monopoleRow monopoleSettles
+monopole-number leg wave = of-resistance _ _ _ ∙ resistance-number _ _
+
+cases : (a : MonopoleRow) → (monopoleNumber a ≡ 0) ⊎ (monopoleValues a ≡ zeroMonopole)
+unfolding monopoleNumber monopoleValues
+cases (Row.Settled row turns) = inl refl
+cases Row.Unsettled = inr refl
+
+pub monopole-answers : (leg : Length) (wave : Float) (r : MonopoleRow) → r ≡ monopoleRow leg wave
+    → IsAnswer monopoleNumber monopoleValues zeroMonopole (monopoleRow leg wave) (monopoleSettles leg wave) r
+monopole-answers leg wave =
+    answers monopoleNumber monopoleValues zeroMonopole cases (monopoleRow leg wave) (monopoleSettles leg wave) (monopole-number leg wave)

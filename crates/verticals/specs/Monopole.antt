@@ -1,6 +1,6 @@
 -- Document 01 section 4: types 2 and 5, label 351 of `iongain2`. Definitions only.
 use Prim.Native.Nat.{ℕ}
-use mathlib.Core.Bool.{cond}
+use mathlib.Core.Bool.{Bool, cond}
 use lib.Ieee.{Float, eq, lt}
 use Rattle.single.specs.Single.{_⊟_, _⊠_, _⊘_, num}
 use Rattle.elementary.specs.Basic.{square}
@@ -11,6 +11,7 @@ use Rattle.parameters.specs.declared.length.Length.{Length}
 use Rattle.reflection.specs.Ground.{imagePower}
 use Rattle.reflection.specs.declared.angles.Elevation.{Elevation}
 use Rattle.reflection.specs.declared.ground.Ground.{Ground}
+use Rattle.integrals.specs.Pair.{pairSettles}
 use Rattle.resistance.specs.Resistance.{resistanceOf}
 use Rattle.resistance.specs.declared.resistance.Resistance.{Resistance}
 use Rattle.resistance.specs.declared.resistance.Resistance.the-variants as Ra
@@ -40,10 +41,20 @@ monopoleRow leg wave =
     let d = num 2 1 ⊠ w .a in
     monopoleFrom (legOf leg wave .el1) (w .x) (resistanceOf d (num 2 1 ⊠ d))
 
--- document 01's number of a row's answer
+unfoldable pub monopoleSettles : Length → Float → Bool
+monopoleSettles leg wave = let d = num 2 1 ⊠ monopoleOf leg wave .a in pairSettles d (num 2 1 ⊠ d)
+
+-- document 01's number and values of a row's answer: zeros where it is refused
 unfoldable pub monopoleNumber : MonopoleRow → ℕ
 monopoleNumber (Row.Settled row turns) = 0
 monopoleNumber Row.Unsettled = 11
+
+abbrev pub zeroMonopole : Monopole
+zeroMonopole = record { x = num 0 1; hwave = num 0 1; chwave = num 0 1; shwave = num 0 1; ra = num 0 1 }
+
+unfoldable pub monopoleValues : MonopoleRow → Monopole
+monopoleValues (Row.Settled row turns) = row
+monopoleValues Row.Unsettled = zeroMonopole
 
 -- `denom`
 unfoldable pub notZero : Float → Float

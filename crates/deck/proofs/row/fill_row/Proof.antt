@@ -14,7 +14,7 @@ enum-told : tie.Need-enum-told
 enum-told c = search needs
 
 returns : tie.Need-returns
-returns c = row-unsettled _ _ _ _ _ (sym (c .before .before .row-of .ensures) ∙ c .enum-told .given .1)
+returns c = row-unsettled _ _ _ _ _ (sym (c .before .before .row-of .ensures .0) ∙ c .enum-told .given .1)
 
 sub-table : tie.Need-sub-table
 sub-table c = omega (arith, c .before .before .before .before .before .before .before .before .before .before .before .before .before .before .before .pre .0, c .before .before .before .before .before .before .before .before .before .before .before .before .before .before .before .pre .1, c .before .before .before .before .before .before .before .before .before .before .before .before .before .before .before .pre .2)
@@ -42,7 +42,7 @@ same-length c = search (needs, c .before .before .fill-above .ensures .1 ∙ len
 
 returns-2 : tie.Need-returns-2
 returns-2 c =
-    row-settled _ _ _ _ _ _ _ _ _ _ _ (sym (c .before .before .before .before .before .before .before .before .before .before .before .before .before .row-of .ensures) ∙ c .before .before .before .before .before .before .before .before .before .before .before .row .given .1)
+    row-settled _ _ _ _ _ _ _ _ _ _ _ (sym (c .before .before .before .before .before .before .before .before .before .before .before .before .before .row-of .ensures .0) ∙ c .before .before .before .before .before .before .before .before .before .before .before .row .given .1)
     (toZ-ofZ w32 _ (search needs)) (c .before .before .before .before .before .before .before .before .before .up-for .ensures) (c .before .before .before .before .before .before .elevation-of .ensures ∙ column-read _ _ _ 0 (c .before .before .before .before .before .before .before .before .before .before .before .before .before .before .before .before .before .before .before .pre .3) (omega arith))
     (c .before .before .before .before .ground-cell .ensures) (c .before .before .fill-above .ensures .0)
 

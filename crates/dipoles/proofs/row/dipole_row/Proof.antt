@@ -1,5 +1,6 @@
 use lib.Ieee.{round, ofBits}
 use Rattle.dipoles.specs.Row.{dipoleRow}
+use Rattle.dipoles.proofs.Refusal.{dipole-answers}
 use borrow.Author.Needs.{needs}
 use Rattle.dipoles.proofs.row.dipole_row.Statement.{statement}
 use Rattle.dipoles.proofs.row.dipole_row.Tie as tie
@@ -9,16 +10,16 @@ enum-told c = search needs
 
 returns : tie.Need-returns
 unfolding dipoleRow round ofBits
-returns c = rw (← c .before .before .integral-pair .ensures, c .enum-told .given .1)
+returns c = dipole-answers (c .before .before .before .args .fac) (c .before .before .before .args .hwave) _ (rw (← c .before .before .integral-pair .ensures .0, c .enum-told .given .1))
 
 returns-2 : tie.Need-returns-2
 unfolding dipoleRow round ofBits
-returns-2 c = rw (
-  ← c .before .before .before .before .before .integral-pair .ensures,
+returns-2 c = dipole-answers (c .before .before .before .before .before .before .args .fac) (c .before .before .before .before .before .before .args .hwave) _ (rw (
+  ← c .before .before .before .before .before .integral-pair .ensures .0,
   c .before .before .before .at2kl .given .1,
   ← c .before .resistance-of .ensures,
   ← c .cos .ensures,
-)
+))
 
 pub dipole-row-spec : {M : Type 1} → statement M
 dipole-row-spec =

@@ -5,6 +5,7 @@ use mir.ValLaws.{toZ-ofZ}
 use Rattle.cells.specs.Cell.{looksUp}
 use Rattle.finish.specs.Finish.{groundOf}
 use Rattle.gain_core.specs.Core.{atGround}
+use Rattle.gain_core.proofs.Unsettled.{ground-answers}
 use borrow.Author.Needs.{needs}
 use Rattle.gain_core.proofs.core.at_ground.Statement.{statement}
 use Rattle.gain_core.proofs.core.at_ground.Tie as tie
@@ -18,7 +19,7 @@ returns c = let s = c .before .before .before .before .before .before .before .a
     let back = toZ-ofZ w32 (s .antenna .kop) (search needs) in
     let e : c .before .before .before .before .looks-up .result ≡ looksUp (s .antenna .kop) = (c .before .before .before .before .looks-up .ensures) ∙ ap looksUp back in
     let low : c .before .before .before .before .before .ground-gain .result ≡ groundOf (s .antenna .kop) (s .height) = (c .before .before .before .before .before .ground-gain .ensures) ∙ ap (λ (k : ℤ). groundOf k (s .height)) back in
-    rw (← low, ← e, c .before .before .before .if1 .taken, ← c .before .before .row-of .ensures, c .enum-told .given .1)
+    ground-answers (s .antenna) (s .fmc) (s .e) (s .height) _ (rw (← low, ← e, c .before .before .before .if1 .taken, ← c .before .before .row-of .ensures .0, c .enum-told .given .1))
 
 returns-2 : tie.Need-returns-2
 unfolding atGround
@@ -26,7 +27,7 @@ returns-2 c = let s = c .before .before .before .before .before .before .before 
     let back = toZ-ofZ w32 (s .antenna .kop) (search needs) in
     let e : c .before .before .before .before .before .before .before .looks-up .result ≡ looksUp (s .antenna .kop) = (c .before .before .before .before .before .before .before .looks-up .ensures) ∙ ap looksUp back in
     let low : c .before .before .before .before .before .before .before .before .ground-gain .result ≡ groundOf (s .antenna .kop) (s .height) = (c .before .before .before .before .before .before .before .before .ground-gain .ensures) ∙ ap (λ (k : ℤ). groundOf k (s .height)) back in
-    rw (← low, ← e, c .before .before .before .before .before .before .if1 .taken, ← c .before .before .before .before .before .row-of .ensures, c .before .before .before .row .given .1, ← low, ← c .before .straight-up .ensures, ← c .blend .ensures)
+    ground-answers (s .antenna) (s .fmc) (s .e) (s .height) _ (rw (← low, ← e, c .before .before .before .before .before .before .if1 .taken, ← c .before .before .before .before .before .row-of .ensures .0, c .before .before .before .row .given .1, ← low, ← c .before .straight-up .ensures, ← c .blend .ensures))
 
 returns-3 : tie.Need-returns-3
 unfolding atGround
@@ -34,7 +35,7 @@ returns-3 c = let s = c .before .before .before .before .args in
     let back = toZ-ofZ w32 (s .antenna .kop) (search needs) in
     let e : c .before .looks-up .result ≡ looksUp (s .antenna .kop) = (c .before .looks-up .ensures) ∙ ap looksUp back in
     let low : c .before .before .ground-gain .result ≡ groundOf (s .antenna .kop) (s .height) = (c .before .before .ground-gain .ensures) ∙ ap (λ (k : ℤ). groundOf k (s .height)) back in
-    rw (← low, ← e, c .if1 .left)
+    ground-answers (s .antenna) (s .fmc) (s .e) (s .height) _ (rw (← low, ← e, c .if1 .left))
 
 pub at-ground-spec : {M : Type 1} → statement M
 at-ground-spec =

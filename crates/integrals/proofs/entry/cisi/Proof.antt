@@ -9,11 +9,11 @@ enum-told c = search needs
 
 returns : tie.Need-returns
 unfolding inLimits cisiNumber cisiValues computedNumber computedValues answerNumber answerValues round ofBits
-returns c = (rw (c .before .before .before .before .if1 .taken, c .before .before .before .if2 .taken, ← c .before .before .integrals-of .ensures, c .enum-told .given .1), rw (c .before .before .before .before .if1 .taken, c .before .before .before .if2 .taken, ← c .before .before .integrals-of .ensures, c .enum-told .given .1))
+returns c = (rw (c .before .before .before .before .if1 .taken, c .before .before .before .if2 .taken, ← c .before .before .integrals-of .ensures .1, c .enum-told .given .1), rw (c .before .before .before .before .if1 .taken, c .before .before .before .if2 .taken, ← c .before .before .integrals-of .ensures .0, c .enum-told .given .1))
 
 returns-2 : tie.Need-returns-2
 unfolding inLimits cisiNumber cisiValues computedNumber computedValues answerNumber answerValues round ofBits
-returns-2 c = (rw (c .before .before .before .before .before .if1 .taken, c .before .before .before .before .if2 .taken, ← c .before .before .before .integrals-of .ensures, c .before .values .given .1), rw (c .before .before .before .before .before .if1 .taken, c .before .before .before .before .if2 .taken, ← c .before .before .before .integrals-of .ensures, c .before .values .given .1))
+returns-2 c = (rw (c .before .before .before .before .before .if1 .taken, c .before .before .before .before .if2 .taken, ← c .before .before .before .integrals-of .ensures .1, c .before .values .given .1), rw (c .before .before .before .before .before .if1 .taken, c .before .before .before .before .if2 .taken, ← c .before .before .before .integrals-of .ensures .0, c .before .values .given .1))
 
 returns-3 : tie.Need-returns-3
 unfolding inLimits cisiNumber cisiValues computedNumber computedValues answerNumber answerValues round ofBits

@@ -1,12 +1,13 @@
 use lib.Ieee.{round, ofBits}
 use Rattle.integrals.specs.Series.{siSeries}
+use Rattle.integrals.proofs.Settled.{si-answers}
 use borrow.Author.Needs.{needs}
 use Rattle.integrals.proofs.series.si_series.Statement.{statement}
 use Rattle.integrals.proofs.series.si_series.Tie as tie
 
 returns : tie.Need-returns
 unfolding siSeries round ofBits
-returns c = c .sum-series .ensures
+returns c = si-answers (c .before .args .x) _ (c .sum-series .ensures)
 
 pub si-series-spec : {M : Type 1} → statement M
 si-series-spec = tie.close (tie.spec (λ c κs. search needs) returns)

@@ -1,5 +1,6 @@
 use lib.Ieee.{round, ofBits}
 use Rattle.inverted_l.specs.InvertedL.{invertedLRow}
+use Rattle.inverted_l.proofs.Refusal.{inverted-l-answers}
 use borrow.Author.Needs.{needs}
 use Rattle.inverted_l.proofs.inverted_l.inverted_l_row.Statement.{statement}
 use Rattle.inverted_l.proofs.inverted_l.inverted_l_row.Tie as tie
@@ -9,19 +10,19 @@ enum-told c = search needs
 
 returns : tie.Need-returns
 unfolding invertedLRow round ofBits
-returns c = rw (← c .before .before .resistance-of .ensures, c .enum-told .given .1)
+returns c = inverted-l-answers (c .before .before .before .args .fac) (c .before .before .before .args .hwave) _ (rw (← c .before .before .resistance-of .ensures .0, c .enum-told .given .1))
 
 returns-2 : tie.Need-returns-2
 unfolding invertedLRow round ofBits
-returns-2 c = rw (
-  ← c .before .before .before .before .before .before .resistance-of .ensures,
+returns-2 c = inverted-l-answers (c .before .before .before .before .before .before .before .args .fac) (c .before .before .before .before .before .before .before .args .hwave) _ (rw (
+  ← c .before .before .before .before .before .before .resistance-of .ensures .0,
   c .before .before .before .before .ra .given .1,
   ← c .before .before .eff8-of .ensures,
   ← c .before .sin-cos .ensures .0,
   ← c .before .sin-cos .ensures .1,
   ← c .sin-cos2 .ensures .0,
   ← c .sin-cos2 .ensures .1,
-)
+))
 
 pub inverted-l-row-spec : {M : Type 1} → statement M
 inverted-l-row-spec =

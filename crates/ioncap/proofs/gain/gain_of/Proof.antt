@@ -21,13 +21,13 @@ returns-2 : tie.Need-returns-2
 unfolding gainOf callWork
 returns-2 c = let call = c .before .before .before .before .before .before .before .before .before .before .args .call in
     let antenna : c .before .before .before .before .before .antenna-of .result ≡ antennaOf (call .kop) (call .toaz) (call .params) (call .model) = (c .before .before .before .before .before .antenna-of .ensures) ∙ ap (λ (k : ℤ). antennaOf k (call .toaz) (call .params) (call .model)) (toZ-ofZ w32 (call .kop) (search needs)) in
-    answers call (c .before .before .before .before .before .before .before .before .before .before .args .height) _ (rw (← c .before .before .before .before .before .before .before .before .before .call-refusal .ensures, c .before .before .before .before .before .before .before .before .if1 .left, ← antenna, ← c .before .before .before .before .sin-cos .ensures .0, ← c .before .before .before .before .sin-cos .ensures .1, ← c .before .before .before .elevation-of .ensures, ← c .before .before .work .ensures, c .enum-told .given .1))
+    answers call (c .before .before .before .before .before .before .before .before .before .before .args .height) _ (rw (← c .before .before .before .before .before .before .before .before .before .call-refusal .ensures, c .before .before .before .before .before .before .before .before .if1 .left, ← antenna, ← c .before .before .before .before .sin-cos .ensures .0, ← c .before .before .before .before .sin-cos .ensures .1, ← c .before .before .before .elevation-of .ensures, ← c .before .before .work .ensures .0, c .enum-told .given .1))
 
 returns-3 : tie.Need-returns-3
 unfolding gainOf callWork
 returns-3 c = let call = c .before .before .before .before .before .before .before .before .before .before .before .args .call in
     let antenna : c .before .before .before .before .before .before .antenna-of .result ≡ antennaOf (call .kop) (call .toaz) (call .params) (call .model) = (c .before .before .before .before .before .before .antenna-of .ensures) ∙ ap (λ (k : ℤ). antennaOf k (call .toaz) (call .params) (call .model)) (toZ-ofZ w32 (call .kop) (search needs)) in
-    answers call (c .before .before .before .before .before .before .before .before .before .before .before .args .height) _ (rw (← c .before .before .before .before .before .before .before .before .before .before .call-refusal .ensures, c .before .before .before .before .before .before .before .before .before .if1 .left, ← antenna, ← c .before .before .before .before .before .sin-cos .ensures .0, ← c .before .before .before .before .before .sin-cos .ensures .1, ← c .before .before .before .before .elevation-of .ensures, ← c .before .before .before .work .ensures, c .before .call .given .1))
+    answers call (c .before .before .before .before .before .before .before .before .before .before .before .args .height) _ (rw (← c .before .before .before .before .before .before .before .before .before .before .call-refusal .ensures, c .before .before .before .before .before .before .before .before .before .if1 .left, ← antenna, ← c .before .before .before .before .before .sin-cos .ensures .0, ← c .before .before .before .before .before .sin-cos .ensures .1, ← c .before .before .before .before .elevation-of .ensures, ← c .before .before .before .work .ensures .0, c .before .call .given .1))
 
 pub gain-of-spec : {M : Type 1} → statement M
 gain-of-spec =

@@ -19,12 +19,12 @@ enum-told c = search needs
 -- src/pattern.rt:54:9
 returns : tie.Need-returns
 unfolding dipoleOf round ofBits neg
-returns c = rw (← c .before .before .dipole-row .ensures, c .enum-told .given .1)
+returns c = rw (← c .before .before .dipole-row .ensures .0, c .enum-told .given .1)
 
 -- src/pattern.rt:50:1
 returns-2 : tie.Need-returns-2
 unfolding dipoleOf round ofBits neg
-returns-2 c = rw (← c .before .before .before .dipole-row .ensures, c .before .row .given .1)
+returns-2 c = rw (← c .before .before .before .dipole-row .ensures .0, c .before .row .given .1)
 
 pub dipole-of-spec : {M : Type 1} → statement M
 dipole-of-spec = tie.close (tie.spec dipole-row-requires enum-known-row enum-told returns returns-2)

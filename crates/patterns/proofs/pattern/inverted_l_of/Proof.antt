@@ -19,12 +19,12 @@ enum-told c = search needs
 -- src/pattern.rt:72:9
 returns : tie.Need-returns
 unfolding invertedLOf round ofBits neg
-returns c = rw (← c .before .before .inverted-l-row .ensures, c .enum-told .given .1)
+returns c = rw (← c .before .before .inverted-l-row .ensures .0, c .enum-told .given .1)
 
 -- src/pattern.rt:68:1
 returns-2 : tie.Need-returns-2
 unfolding invertedLOf round ofBits neg
-returns-2 c = rw (← c .before .before .before .inverted-l-row .ensures, c .before .row .given .1)
+returns-2 c = rw (← c .before .before .before .inverted-l-row .ensures .0, c .before .row .given .1)
 
 pub inverted-l-of-spec : {M : Type 1} → statement M
 inverted-l-of-spec = tie.close (tie.spec inverted-l-row-requires enum-known-row enum-told returns returns-2)

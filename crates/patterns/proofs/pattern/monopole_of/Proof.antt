@@ -19,12 +19,12 @@ enum-told c = search needs
 -- src/pattern.rt:63:9
 returns : tie.Need-returns
 unfolding monopoleFor round ofBits neg
-returns c = rw (← c .before .before .monopole-row .ensures, c .enum-told .given .1)
+returns c = rw (← c .before .before .monopole-row .ensures .0, c .enum-told .given .1)
 
 -- src/pattern.rt:59:1
 returns-2 : tie.Need-returns-2
 unfolding monopoleFor round ofBits neg
-returns-2 c = rw (← c .before .before .before .monopole-row .ensures, c .before .row .given .1)
+returns-2 c = rw (← c .before .before .before .monopole-row .ensures .0, c .before .row .given .1)
 
 pub monopole-of-spec : {M : Type 1} → statement M
 monopole-of-spec = tie.close (tie.spec monopole-row-requires enum-known-row enum-told returns returns-2)

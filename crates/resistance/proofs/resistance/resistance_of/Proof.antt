@@ -1,4 +1,5 @@
 use Rattle.resistance.specs.Resistance.{resistanceOf}
+use Rattle.resistance.proofs.Refusal.{resistance-answers}
 use borrow.Author.Needs.{needs}
 use Rattle.resistance.proofs.resistance.resistance_of.Statement.{statement}
 use Rattle.resistance.proofs.resistance.resistance_of.Tie as tie
@@ -8,15 +9,15 @@ enum-told c = search needs
 
 returns : tie.Need-returns
 unfolding resistanceOf
-returns c = rw (← c .before .before .integral-pair .ensures, c .enum-told .given .1)
+returns c = resistance-answers (c .before .before .before .args .d) (c .before .before .before .args .z) _ (rw (← c .before .before .integral-pair .ensures .0, c .enum-told .given .1))
 
 returns-2 : tie.Need-returns-2
 unfolding resistanceOf
-returns-2 c = rw (
-  ← c .before .before .before .before .integral-pair .ensures,
+returns-2 c = resistance-answers (c .before .before .before .before .before .args .d) (c .before .before .before .before .before .args .z) _ (rw (
+  ← c .before .before .before .before .integral-pair .ensures .0,
   c .before .before .dw .given .1,
   ← c .resistance-from .ensures,
-)
+))
 
 pub resistance-of-spec : {M : Type 1} → statement M
 resistance-of-spec =

@@ -4,6 +4,7 @@ use mir.Syntax.{w32}
 use mir.ValLaws.{toZ-ofZ}
 use Rattle.rows.specs.Row.{heightFor, offsetFor, rowOf}
 use Rattle.finish.specs.Finish.{efficiencyOf}
+use Rattle.rows.proofs.Unsettled.{row-answers}
 use borrow.Author.Needs.{needs}
 use Rattle.rows.proofs.row.row_of.Statement.{statement}
 use Rattle.rows.proofs.row.row_of.Tie as tie
@@ -13,7 +14,7 @@ enum-told c = search needs
 
 returns : tie.Need-returns
 unfolding rowOf
-returns c = rw (← c .before .before .before .wave-of .ensures, ← c .before .before .pattern-of .ensures, c .enum-told .given .1)
+returns c = row-answers (c .before .before .before .before .args .antenna) (c .before .before .before .before .args .fmc) _ (rw (← c .before .before .before .wave-of .ensures, ← c .before .before .pattern-of .ensures .0, c .enum-told .given .1))
 
 returns-2 : tie.Need-returns-2
 unfolding rowOf
@@ -23,7 +24,7 @@ returns-2 c = let antenna = c .before .before .before .before .before .before .b
     let x : c .before .before .before .before .before .height-for .result ≡ heightFor (antenna .kop) (antenna .leg) wave = (c .before .before .before .before .before .height-for .ensures) ∙ ap (λ (k : ℤ). heightFor k (antenna .leg) wave) back in
     let eff : c .before .before .efficiency .result ≡ efficiencyOf (antenna .kop) (c .before .before .before .before .before .height-for .result) (c .before .before .before .before .eff8-for .result) = (c .before .before .efficiency .ensures) ∙ ap (λ (k : ℤ). efficiencyOf k (c .before .before .before .before .before .height-for .result) (c .before .before .before .before .eff8-for .result)) back in
     let sok : c .before .offset-for .result ≡ offsetFor (antenna .kop) (antenna .params) = (c .before .offset-for .ensures) ∙ ap (λ (k : ℤ). offsetFor k (antenna .params)) back in
-    rw (back, ← c .before .before .before .before .before .before .before .before .before .before .before .before .wave-of .ensures, ← c .before .before .before .before .before .before .before .before .before .before .before .pattern-of .ensures, c .before .before .before .before .before .before .before .before .before .pattern .given .1, ← c .before .before .before .before .before .before .before .before .before .before .before .before .wave-of .ensures, ← x, ← c .before .before .before .before .eff8-for .ensures, ← eff, ← c .before .before .before .soil-of .ensures, ← sok, ← c .curtain-elevation-threshold .ensures)
+    row-answers antenna (c .before .before .before .before .before .before .before .before .before .before .before .before .before .args .fmc) _ (rw (back, ← c .before .before .before .before .before .before .before .before .before .before .before .before .wave-of .ensures, ← c .before .before .before .before .before .before .before .before .before .before .before .pattern-of .ensures .0, c .before .before .before .before .before .before .before .before .before .pattern .given .1, ← c .before .before .before .before .before .before .before .before .before .before .before .before .wave-of .ensures, ← x, ← c .before .before .before .before .eff8-for .ensures, ← eff, ← c .before .before .before .soil-of .ensures, ← sok, ← c .curtain-elevation-threshold .ensures))
 
 pub row-of-spec : {M : Type 1} → statement M
 row-of-spec =

@@ -1,5 +1,6 @@
 use lib.Ieee.{round, ofBits}
 use Rattle.verticals.specs.Monopole.{monopoleRow}
+use Rattle.verticals.proofs.Refusal.{monopole-answers}
 use borrow.Author.Needs.{needs}
 use Rattle.verticals.proofs.monopole.monopole_row.Statement.{statement}
 use Rattle.verticals.proofs.monopole.monopole_row.Tie as tie
@@ -9,23 +10,23 @@ enum-told c = search needs
 
 returns : tie.Need-returns
 unfolding monopoleRow round ofBits
-returns c = rw (
+returns c = monopole-answers (c .before .before .before .before .before .args .leg) (c .before .before .before .before .before .args .wave) _ (rw (
   ← c .before .before .before .before .monopole-in-waves .ensures,
-  ← c .before .before .resistance-of .ensures,
+  ← c .before .before .resistance-of .ensures .0,
   c .enum-told .given .1,
-)
+))
 
 returns-2 : tie.Need-returns-2
 unfolding monopoleRow round ofBits
-returns-2 c = rw (
+returns-2 c = monopole-answers (c .before .before .before .before .before .before .before .before .before .before .args .leg) (c .before .before .before .before .before .before .before .before .before .before .args .wave) _ (rw (
   ← c .before .before .before .before .before .before .before .before .before .monopole-in-waves .ensures,
-  ← c .before .before .before .before .before .before .before .resistance-of .ensures,
+  ← c .before .before .before .before .before .before .before .resistance-of .ensures .0,
   c .before .before .before .before .before .ra .given .1,
   ← c .before .before .before .leg-in-waves .ensures,
   ← c .before .before .short-resistance .ensures,
   ← c .sin-cos .ensures .0,
   ← c .sin-cos .ensures .1,
-)
+))
 
 pub monopole-row-spec : {M : Type 1} → statement M
 monopole-row-spec =
