@@ -11,13 +11,13 @@ use Rattle.card_line.proofs.line.read_line.Tie as tie
 
 -- the three integers
 kop-read : (c : tie.After-kop) → integerAt (c .before .before .before .before .before .before .args .s .now) 0 ≡ Number (c .kop .given .0 .0)
-kop-read c = sym (c .before .before .read-integer .ensures) ∙ c .kop .given .1
+kop-read c = sym (c .before .before .read-integer .ensures .0) ∙ c .kop .given .1
 
 first-read : (c : tie.After-first) → integerAt (c .before .before .before .before .before .before .before .before .before .before .before .args .s .now) 3 ≡ Number (c .first .given .0 .0)
-first-read c = sym (c .before .before .read-integer2 .ensures) ∙ c .first .given .1
+first-read c = sym (c .before .before .read-integer2 .ensures .0) ∙ c .first .given .1
 
 last-read : (c : tie.After-last) → integerAt (c .before .before .before .before .before .before .before .before .before .before .before .before .before .before .before .before .args .s .now) 6 ≡ Number (c .last .given .0 .0)
-last-read c = sym (c .before .before .read-integer3 .ensures) ∙ c .last .given .1
+last-read c = sym (c .before .before .read-integer3 .ensures .0) ∙ c .last .given .1
 
 returns : tie.Need-returns
 returns c = c .malformed .ensures ∙ sym (wrong-length _ (c .before .if1 .taken))
@@ -26,13 +26,13 @@ enum-told : tie.Need-enum-told
 enum-told c = search needs
 
 returns-2 : tie.Need-returns-2
-returns-2 c = no-type _ _ (c .malformed2 .ensures) (sym (c .before .before .before .read-integer .ensures) ∙ c .before .enum-told .given .1)
+returns-2 c = no-type _ _ (c .malformed2 .ensures) (sym (c .before .before .before .read-integer .ensures .0) ∙ c .before .enum-told .given .1)
 
 returns-3 : tie.Need-returns-3
-returns-3 c = no-first _ _ (c .malformed3 .ensures) (sym (c .before .before .before .read-integer2 .ensures) ∙ c .before .enum-told2 .given .1)
+returns-3 c = no-first _ _ (c .malformed3 .ensures) (sym (c .before .before .before .read-integer2 .ensures .0) ∙ c .before .enum-told2 .given .1)
 
 returns-4 : tie.Need-returns-4
-returns-4 c = no-last _ _ (c .malformed4 .ensures) (sym (c .before .before .before .read-integer3 .ensures) ∙ c .before .enum-told3 .given .1)
+returns-4 c = no-last _ _ (c .malformed4 .ensures) (sym (c .before .before .before .read-integer3 .ensures .0) ∙ c .before .enum-told3 .given .1)
 
 returns-5 : tie.Need-returns-5
 returns-5 c = no-decimals _ _ (c .malformed5 .ensures) _ _ (c .before .before .before .read-decimals .ensures) (not-true _ (c .before .if2 .taken))
