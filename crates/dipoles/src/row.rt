@@ -1,6 +1,6 @@
 // What holds for a whole row, whatever the azimuth: the phases and the radiation resistance.
 ghost use mathlib.Core.Path.{_≡_};
-ghost use Rattle.integrals.specs.Settled.{IsAnswer};
+ghost use Rattle.single.specs.Answer.{IsAnswer};
 ghost use Rattle.dipoles.specs.Row.{cotangent, resistance, dipoleRow};
 ghost use Rattle.dipoles.specs.Row.{dipoleSettles, dipoleNumber, dipoleValues, zeroDipole};
 use integrals::IntegralPair;
@@ -41,7 +41,7 @@ fn resistance_of(fac: f32, at2kl: Integrals, atkl: Integrals) -> f32
 }
 
 pub fn dipole_row(fac: f32, hwave: f32) -> DipoleRow
-    ensures { λ r. ⌜ IsAnswer dipoleNumber dipoleValues zeroDipole (dipoleRow fac hwave) (dipoleSettles fac) r ⌝ }
+    ensures { λ r. ⌜ IsAnswer dipoleNumber dipoleValues zeroDipole 11 (dipoleRow fac hwave) (dipoleSettles fac) r ⌝ }
 {
     let IntegralPair::Settled(at2kl, atkl, turns) = integral_pair(fac * 4.0, fac * 2.0) else {
         return DipoleRow::Unsettled;

@@ -2,10 +2,12 @@
 use mathlib.Core.Path.{_≡_, refl, _∙_}
 use mathlib.Core.Bool.{Bool, true, false}
 use mathlib.Core.Logic.{_⊎_, inl, inr}
+use native.Mathlib.Omega.{arith}
 use lib.Ieee.{Float, le}
 use Rattle.single.specs.Single.{num}
-use Rattle.integrals.specs.Settled.{settledNumber, IsAnswer}
-use Rattle.integrals.proofs.Settled.{answers}
+use Rattle.single.specs.Answer.{IsAnswer}
+use Rattle.integrals.specs.Settled.{settledNumber}
+use Rattle.single.proofs.Answer.{answers}
 use Rattle.reflection.specs.Angles.{waveOf}
 use Rattle.reflection.specs.declared.angles.Elevation.{Elevation}
 use Rattle.patterns.specs.Pattern.{patternSettles}
@@ -35,8 +37,8 @@ cases (Settled call) = inl refl
 cases Unsettled = inr refl
 
 work-answers : (whole : Worked) (settles : Bool) → workNumber whole ≡ settledNumber settles
-    → (r : Worked) → r ≡ whole → IsAnswer workNumber workValues zeroValues whole settles r
-work-answers = answers workNumber workValues zeroValues cases
+    → (r : Worked) → r ≡ whole → IsAnswer workNumber workValues zeroValues 11 whole settles r
+work-answers = answers workNumber workValues zeroValues 11 (omega arith) cases
 
 module _ (antenna : Antenna) (fmc : Float) (e : Elevation) where
   pub above-number : (delta : Float) → workNumber (aboveGround antenna fmc delta e) ≡ settledNumber (patternSettles antenna (waveOf fmc))
@@ -60,13 +62,13 @@ module _ (antenna : Antenna) (fmc : Float) (e : Elevation) where
       go false t = rw t (above-number delta)
 
   pub above-answers : (delta : Float) (r : Worked) → r ≡ aboveGround antenna fmc delta e
-      → IsAnswer workNumber workValues zeroValues (aboveGround antenna fmc delta e) (patternSettles antenna (waveOf fmc)) r
+      → IsAnswer workNumber workValues zeroValues 11 (aboveGround antenna fmc delta e) (patternSettles antenna (waveOf fmc)) r
   above-answers delta = work-answers (aboveGround antenna fmc delta e) (patternSettles antenna (waveOf fmc)) (above-number delta)
 
   pub ground-answers : (height : Float) (r : Worked) → r ≡ atGround antenna fmc e height
-      → IsAnswer workNumber workValues zeroValues (atGround antenna fmc e height) (groundSettles antenna fmc) r
+      → IsAnswer workNumber workValues zeroValues 11 (atGround antenna fmc e height) (groundSettles antenna fmc) r
   ground-answers height = work-answers (atGround antenna fmc e height) (groundSettles antenna fmc) (ground-number height)
 
   pub all-answers : (delta height : Float) (r : Worked) → r ≡ workOf antenna fmc delta e height
-      → IsAnswer workNumber workValues zeroValues (workOf antenna fmc delta e height) (workSettles antenna fmc delta) r
+      → IsAnswer workNumber workValues zeroValues 11 (workOf antenna fmc delta e height) (workSettles antenna fmc delta) r
   all-answers delta height = work-answers (workOf antenna fmc delta e height) (workSettles antenna fmc delta) (work-number delta height)

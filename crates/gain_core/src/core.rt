@@ -1,6 +1,6 @@
 // `iongain` by value, within the limits: at the ground by the carried height, above it without.
 ghost use mathlib.Core.Path.{_≡_};
-ghost use Rattle.integrals.specs.Settled.{IsAnswer};
+ghost use Rattle.single.specs.Answer.{IsAnswer};
 ghost use Rattle.reflection.specs.Angles.{waveOf};
 ghost use Rattle.patterns.specs.Pattern.{patternSettles};
 ghost use Rattle.gain_core.specs.Core.{upFor, aboveGround, atGround, workOf};
@@ -39,7 +39,7 @@ pub fn up_for(row: Row) -> f32
 }
 
 pub fn above_ground(antenna: Antenna, fmc: f32, delta: f32, e: Elevation) -> Worked
-    ensures { λ r. ⌜ IsAnswer workNumber workValues zeroValues (aboveGround antenna fmc delta e) (patternSettles antenna (waveOf fmc)) r ⌝ }
+    ensures { λ r. ⌜ IsAnswer workNumber workValues zeroValues 11 (aboveGround antenna fmc delta e) (patternSettles antenna (waveOf fmc)) r ⌝ }
 {
     let RowAnswer::Settled(row, turns) = rows::row_of(antenna, fmc) else {
         return Worked::Unsettled;
@@ -55,7 +55,7 @@ pub fn above_ground(antenna: Antenna, fmc: f32, delta: f32, e: Elevation) -> Wor
 
 // Types 3 and 4 look straight up here too, and leave 1; any other leaves the height as it is.
 pub fn at_ground(antenna: Antenna, fmc: f32, e: Elevation, height: f32) -> Worked
-    ensures { λ r. ⌜ IsAnswer workNumber workValues zeroValues (atGround antenna fmc e height) (groundSettles antenna fmc) r ⌝ }
+    ensures { λ r. ⌜ IsAnswer workNumber workValues zeroValues 11 (atGround antenna fmc e height) (groundSettles antenna fmc) r ⌝ }
 {
     let kop = antenna.kop;
     let low = finish::ground_gain(kop, height);
@@ -80,7 +80,7 @@ pub fn at_ground(antenna: Antenna, fmc: f32, e: Elevation, height: f32) -> Worke
 
 // `e` has the elevation's sine and cosine.
 pub fn work(antenna: Antenna, fmc: f32, delta: f32, e: Elevation, height: f32) -> Worked
-    ensures { λ r. ⌜ IsAnswer workNumber workValues zeroValues (workOf antenna fmc delta e height) (workSettles antenna fmc delta) r ⌝ }
+    ensures { λ r. ⌜ IsAnswer workNumber workValues zeroValues 11 (workOf antenna fmc delta e height) (workSettles antenna fmc delta) r ⌝ }
 {
     if delta <= 0.0 {
         return at_ground(antenna, fmc, e, height);

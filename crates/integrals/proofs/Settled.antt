@@ -1,13 +1,15 @@
 -- Where 11 arises: an answer's number is 11 exactly where the series that it takes do not settle, and there its values are zeros. Assumes nothing.
 use Prim.Native.Nat.{ℕ, zero, suc, _+_}
-use mathlib.Core.Path.{_≡_, refl, sym, ap, _∙_}
+use mathlib.Core.Path.{_≡_, refl, _∙_}
 use mathlib.Core.Bool.{Bool, true, false, cond, _&&_, _||_}
 use mathlib.Core.Logic.{_⊎_, inl, inr}
 use native.Mathlib.Omega.{arith}
 use lib.Dec.{eqb}
 use lib.Ieee.{Float, lt}
 use Rattle.single.specs.Single.{_⊞_, num}
-use Rattle.integrals.specs.Settled.{settledNumber, IsAnswer}
+use Rattle.single.proofs.Answer.{answers}
+use Rattle.single.specs.Answer.{IsAnswer}
+use Rattle.integrals.specs.Settled.{settledNumber}
 use Rattle.integrals.specs.Series.{nextTerm, small, seriesFrom, settlesWithin, seriesOf, ciSeries, siSeries, ciSettles, siSettles, seriesNumber, seriesValue}
 use Rattle.integrals.specs.Cisi.{zeros, bothOf, integralsOf, integralsSettle, computedNumber, computedValues}
 use Rattle.integrals.specs.Pair.{pairOf, integralPair, pairSettles, pairNumber, pairValues, zeroPair}
@@ -17,16 +19,6 @@ use Rattle.integrals.specs.declared.entry.Computed.{Computed}
 use Rattle.integrals.specs.declared.entry.Computed.the-variants as One
 use Rattle.integrals.specs.declared.pair.IntegralPair.{IntegralPair}
 use Rattle.integrals.specs.declared.pair.IntegralPair.the-variants as Two
-
--- every promise of an answer that 11 may refuse: `cases` says that one not numbered 0 has zeros
-pub answers : {A B : Type 0} (number : A → ℕ) (values : A → B) (zeros : B) → ((a : A) → (number a ≡ 0) ⊎ (values a ≡ zeros))
-    → (whole : A) (settles : Bool) → number whole ≡ settledNumber settles → (r : A) → r ≡ whole → IsAnswer number values zeros whole settles r
-answers number values zeros cases whole settles n r e = (e, ap number e ∙ n, ap values e ∙ go settles n (cases whole))
-  where
-    go : (s : Bool) → number whole ≡ settledNumber s → (number whole ≡ 0) ⊎ (values whole ≡ zeros) → values whole ≡ cond s (values whole) zeros
-    go true n z = refl
-    go false n (inl p) = absurd (let q : _≡_ {A = ℕ} 0 11 = sym p ∙ n in omega arith)
-    go false n (inr z) = z
 
 -- where the first settles the second decides
 and-number : (n m : ℕ) (s t : Bool) → n ≡ settledNumber s → m ≡ settledNumber t → cond (eqb n 0) m 11 ≡ settledNumber (s && t)
@@ -56,11 +48,11 @@ si-number : (x : Float) → seriesNumber (siSeries x) ≡ settledNumber (siSettl
 unfolding siSeries siSettles seriesOf
 si-number x = within 8 false 0 _ _ _ _
 
-pub ci-answers : (x : Float) (r : SeriesSum) → r ≡ ciSeries x → IsAnswer seriesNumber seriesValue (num 0 1) (ciSeries x) (ciSettles x) r
-ci-answers x = answers seriesNumber seriesValue (num 0 1) series-cases (ciSeries x) (ciSettles x) (ci-number x)
+pub ci-answers : (x : Float) (r : SeriesSum) → r ≡ ciSeries x → IsAnswer seriesNumber seriesValue (num 0 1) 11 (ciSeries x) (ciSettles x) r
+ci-answers x = answers seriesNumber seriesValue (num 0 1) 11 (omega arith) series-cases (ciSeries x) (ciSettles x) (ci-number x)
 
-pub si-answers : (x : Float) (r : SeriesSum) → r ≡ siSeries x → IsAnswer seriesNumber seriesValue (num 0 1) (siSeries x) (siSettles x) r
-si-answers x = answers seriesNumber seriesValue (num 0 1) series-cases (siSeries x) (siSettles x) (si-number x)
+pub si-answers : (x : Float) (r : SeriesSum) → r ≡ siSeries x → IsAnswer seriesNumber seriesValue (num 0 1) 11 (siSeries x) (siSettles x) r
+si-answers x = answers seriesNumber seriesValue (num 0 1) 11 (omega arith) series-cases (siSeries x) (siSettles x) (si-number x)
 
 -- ---- both integrals of a number
 of-series : (a b : SeriesSum) → computedNumber (bothOf a b) ≡ cond (eqb (seriesNumber a) 0) (seriesNumber b) 11
@@ -83,8 +75,8 @@ integrals-number x = go (lt x (num 1 1)) refl
     go false t = rw t refl
 
 pub integrals-answers : (x : Float) (r : Computed) → r ≡ integralsOf x
-    → IsAnswer computedNumber computedValues zeros (integralsOf x) (integralsSettle x) r
-integrals-answers x = answers computedNumber computedValues zeros computed-cases (integralsOf x) (integralsSettle x) (integrals-number x)
+    → IsAnswer computedNumber computedValues zeros 11 (integralsOf x) (integralsSettle x) r
+integrals-answers x = answers computedNumber computedValues zeros 11 (omega arith) computed-cases (integralsOf x) (integralsSettle x) (integrals-number x)
 
 -- ---- those of two numbers
 of-integrals : (a b : Computed) → pairNumber (pairOf a b) ≡ cond (eqb (computedNumber a) 0) (computedNumber b) 11
@@ -104,5 +96,5 @@ pair-number x y =
     of-integrals (integralsOf x) (integralsOf y) ∙ and-number _ _ (integralsSettle x) (integralsSettle y) (integrals-number x) (integrals-number y)
 
 pub pair-answers : (x y : Float) (r : IntegralPair) → r ≡ integralPair x y
-    → IsAnswer pairNumber pairValues zeroPair (integralPair x y) (pairSettles x y) r
-pair-answers x y = answers pairNumber pairValues zeroPair pair-cases (integralPair x y) (pairSettles x y) (pair-number x y)
+    → IsAnswer pairNumber pairValues zeroPair 11 (integralPair x y) (pairSettles x y) r
+pair-answers x y = answers pairNumber pairValues zeroPair 11 (omega arith) pair-cases (integralPair x y) (pairSettles x y) (pair-number x y)

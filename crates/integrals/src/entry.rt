@@ -2,7 +2,7 @@
 ghost use mathlib.Core.Path.{_≡_};
 ghost use Rattle.integrals.specs.Cisi.{integralsOf, integralsSettle, computedNumber, computedValues, zeros};
 ghost use Rattle.integrals.specs.Cisi.{answerNumber, answerValues, cisiNumber, cisiValues};
-ghost use Rattle.integrals.specs.Settled.{IsAnswer};
+ghost use Rattle.single.specs.Answer.{IsAnswer};
 use crate::rational::Integrals;
 use crate::rational::rational;
 use crate::series::SeriesSum;
@@ -30,7 +30,7 @@ pub enum Answer {
 
 // What gain calls take: no limits on the argument.
 pub fn integrals_of(x: f32) -> Computed
-    ensures { λ r. ⌜ IsAnswer computedNumber computedValues zeros (integralsOf x) (integralsSettle x) r ⌝ }
+    ensures { λ r. ⌜ IsAnswer computedNumber computedValues zeros 11 (integralsOf x) (integralsSettle x) r ⌝ }
 {
     if x < 1.0 {
         let SeriesSum::Settled(ci, ci_turns) = ci_series(x) else {

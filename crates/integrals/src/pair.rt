@@ -1,7 +1,7 @@
 // The integrals of two arguments, with the largest turns that either took.
 ghost use mathlib.Core.Path.{_≡_};
 ghost use Rattle.integrals.specs.Pair.{largerOf, largerTurns, integralPair, pairSettles, pairNumber, pairValues, zeroPair};
-ghost use Rattle.integrals.specs.Settled.{IsAnswer};
+ghost use Rattle.single.specs.Answer.{IsAnswer};
 use crate::entry::Computed;
 use crate::entry::Turns;
 use crate::entry::integrals_of;
@@ -27,7 +27,7 @@ fn larger_turns(a: Turns, b: Turns) -> Turns
 }
 
 pub fn integral_pair(x: f32, y: f32) -> IntegralPair
-    ensures { λ r. ⌜ IsAnswer pairNumber pairValues zeroPair (integralPair x y) (pairSettles x y) r ⌝ }
+    ensures { λ r. ⌜ IsAnswer pairNumber pairValues zeroPair 11 (integralPair x y) (pairSettles x y) r ⌝ }
 {
     let Computed::Settled(first, n) = integrals_of(x) else {
         return IntegralPair::Unsettled;

@@ -1,7 +1,7 @@
 // The two series, for arguments below 1.
 ghost use mathlib.Core.Path.{_≡_};
 ghost use Rattle.integrals.specs.Series.{seriesOf, ciSeries, siSeries, ciSettles, siSettles, seriesNumber, seriesValue};
-ghost use Rattle.integrals.specs.Settled.{IsAnswer};
+ghost use Rattle.single.specs.Answer.{IsAnswer};
 ghost use Rattle.single.specs.Single.{num};
 
 // Turns that a series may make.
@@ -36,14 +36,14 @@ fn sum_series(first: f32, start: f32, from: f32, sq: f32) -> SeriesSum
 }
 
 pub fn ci_series(x: f32) -> SeriesSum
-    ensures { λ r. ⌜ IsAnswer seriesNumber seriesValue (num 0 1) (ciSeries x) (ciSettles x) r ⌝ }
+    ensures { λ r. ⌜ IsAnswer seriesNumber seriesValue (num 0 1) 11 (ciSeries x) (ciSettles x) r ⌝ }
 {
     let sq = x * x;
     sum_series(0.5772156649 + elementary::ln(x), -sq / 4.0, 4.0, sq)
 }
 
 pub fn si_series(x: f32) -> SeriesSum
-    ensures { λ r. ⌜ IsAnswer seriesNumber seriesValue (num 0 1) (siSeries x) (siSettles x) r ⌝ }
+    ensures { λ r. ⌜ IsAnswer seriesNumber seriesValue (num 0 1) 11 (siSeries x) (siSettles x) r ⌝ }
 {
     sum_series(0.0, x, 3.0, x * x)
 }

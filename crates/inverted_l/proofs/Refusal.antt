@@ -1,9 +1,11 @@
 -- Refusal 11 arises in a row of type 8 where, and only where, one of its two integrals is unsettled. Assumes nothing.
 use mathlib.Core.Path.{_≡_, refl, _∙_}
 use mathlib.Core.Logic.{_⊎_, inl, inr}
+use native.Mathlib.Omega.{arith}
 use lib.Ieee.{Float}
-use Rattle.integrals.specs.Settled.{settledNumber, IsAnswer}
-use Rattle.integrals.proofs.Settled.{answers}
+use Rattle.single.specs.Answer.{IsAnswer}
+use Rattle.integrals.specs.Settled.{settledNumber}
+use Rattle.single.proofs.Answer.{answers}
 use Rattle.resistance.specs.Resistance.{resistanceNumber}
 use Rattle.resistance.specs.declared.resistance.Resistance.{Resistance}
 use Rattle.resistance.specs.declared.resistance.Resistance.the-variants as Ra
@@ -27,6 +29,6 @@ cases (Row.Settled row turns) = inl refl
 cases Row.Unsettled = inr refl
 
 pub inverted-l-answers : (fac hwave : Float) (r : InvertedLRow) → r ≡ invertedLRow fac hwave
-    → IsAnswer invertedLNumber invertedLValues zeroInvertedL (invertedLRow fac hwave) (invertedLSettles hwave) r
+    → IsAnswer invertedLNumber invertedLValues zeroInvertedL 11 (invertedLRow fac hwave) (invertedLSettles hwave) r
 inverted-l-answers fac hwave =
-    answers invertedLNumber invertedLValues zeroInvertedL cases (invertedLRow fac hwave) (invertedLSettles hwave) (inverted-l-number fac hwave)
+    answers invertedLNumber invertedLValues zeroInvertedL 11 (omega arith) cases (invertedLRow fac hwave) (invertedLSettles hwave) (inverted-l-number fac hwave)

@@ -1,6 +1,6 @@
 // Inverted L, type 8.
 ghost use mathlib.Core.Path.{_≡_};
-ghost use Rattle.integrals.specs.Settled.{IsAnswer};
+ghost use Rattle.single.specs.Answer.{IsAnswer};
 ghost use Rattle.inverted_l.specs.InvertedL.{invertedLSettles, invertedLNumber, invertedLValues, zeroInvertedL};
 ghost use Rattle.inverted_l.specs.InvertedL.{eff8Of, invertedLRow, g2Of, bprimOf, f1Of, invertedLRain};
 use integrals::Turns;
@@ -42,7 +42,7 @@ fn eff8_of(hwave: f32) -> f32
 }
 
 pub fn inverted_l_row(fac: f32, hwave: f32) -> InvertedLRow
-    ensures { λ r. ⌜ IsAnswer invertedLNumber invertedLValues zeroInvertedL (invertedLRow fac hwave) (invertedLSettles hwave) r ⌝ }
+    ensures { λ r. ⌜ IsAnswer invertedLNumber invertedLValues zeroInvertedL 11 (invertedLRow fac hwave) (invertedLSettles hwave) r ⌝ }
 {
     let hac2 = hwave + hwave;
     let Resistance::Settled(ra, turns) = resistance_of(hac2, hac2 + hac2) else {

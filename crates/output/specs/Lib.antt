@@ -4,4 +4,5 @@ pub mod Hundredths
 pub mod Digits
 pub mod Integer
 pub mod Decimal
+pub mod Malformed
 pub mod Nearest

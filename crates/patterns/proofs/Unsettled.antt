@@ -5,10 +5,12 @@ use mathlib.Core.Bool.{Bool, true, false}
 use mathlib.Core.Logic.{_⊎_, inl, inr}
 use lib.Dec.{T, eqb→eq}
 use lib.IntN.{ℤ, pos, negsuc}
+use native.Mathlib.Omega.{arith}
 use lib.Ieee.{Float}
 use Rattle.parameters.specs.Params.{isType}
-use Rattle.integrals.specs.Settled.{settledNumber, IsAnswer}
-use Rattle.integrals.proofs.Settled.{answers}
+use Rattle.single.specs.Answer.{IsAnswer}
+use Rattle.integrals.specs.Settled.{settledNumber}
+use Rattle.single.proofs.Answer.{answers}
 use Rattle.dipoles.specs.Row.{dipoleNumber}
 use Rattle.dipoles.proofs.Refusal.{dipole-number}
 use Rattle.dipoles.specs.declared.row.DipoleRow.{DipoleRow}
@@ -79,5 +81,5 @@ module _ (antenna : Antenna) (wave : Float) where
       rw (t1, t2, t3, t4, t5, t6, t7, t8, t9, t10) refl))))))))))
 
   pub pattern-answers : (r : PatternAnswer) → r ≡ patternOf antenna wave
-      → IsAnswer patternNumber patternValue P.Other (patternOf antenna wave) (patternSettles antenna wave) r
-  pattern-answers = answers patternNumber patternValue P.Other cases (patternOf antenna wave) (patternSettles antenna wave) pattern-number
+      → IsAnswer patternNumber patternValue P.Other 11 (patternOf antenna wave) (patternSettles antenna wave) r
+  pattern-answers = answers patternNumber patternValue P.Other 11 (omega arith) cases (patternOf antenna wave) (patternSettles antenna wave) pattern-number

@@ -1,6 +1,6 @@
 // The choice of pattern by type, for a row, and its power in a direction.
 ghost use mathlib.Core.Path.{_≡_};
-ghost use Rattle.integrals.specs.Settled.{IsAnswer};
+ghost use Rattle.single.specs.Answer.{IsAnswer};
 ghost use Rattle.patterns.specs.Pattern.{patternSettles, patternNumber, patternValue};
 ghost use Rattle.patterns.specs.declared.pattern.Pattern.the-variants as P;
 ghost use Rattle.patterns.specs.Pattern.{settledAt, dipoleOf, monopoleFor, invertedLOf, patternOf, powerOf};
@@ -76,7 +76,7 @@ fn inverted_l_of(fac: f32, hwave: f32) -> PatternAnswer
 }
 
 pub fn pattern_of(antenna: Antenna, wave: f32) -> PatternAnswer
-    ensures { λ r. ⌜ IsAnswer patternNumber patternValue P.Other (patternOf antenna wave) (patternSettles antenna wave) r ⌝ }
+    ensures { λ r. ⌜ IsAnswer patternNumber patternValue P.Other 11 (patternOf antenna wave) (patternSettles antenna wave) r ⌝ }
 {
     let Antenna {
         kop,

@@ -1,7 +1,7 @@
 // The radiation resistance of a vertical wire.
 ghost use mathlib.Core.Path.{_≡_};
 ghost use Rattle.single.specs.Single.{num};
-ghost use Rattle.integrals.specs.Settled.{IsAnswer};
+ghost use Rattle.single.specs.Answer.{IsAnswer};
 ghost use Rattle.integrals.specs.Pair.{pairSettles};
 ghost use Rattle.resistance.specs.Resistance.{cinOf, resistanceFrom, resistanceOf, resistanceNumber, resistanceValue};
 use integrals::IntegralPair;
@@ -33,7 +33,7 @@ fn resistance_from(d: f32, z: f32, dw: Integrals, zw: Integrals) -> f32
 
 // By the phases d and z, twice and four times the height's.
 pub fn resistance_of(d: f32, z: f32) -> Resistance
-    ensures { λ r. ⌜ IsAnswer resistanceNumber resistanceValue (num 0 1) (resistanceOf d z) (pairSettles d z) r ⌝ }
+    ensures { λ r. ⌜ IsAnswer resistanceNumber resistanceValue (num 0 1) 11 (resistanceOf d z) (pairSettles d z) r ⌝ }
 {
     let IntegralPair::Settled(dw, zw, turns) = integrals::integral_pair(d, z) else {
         return Resistance::Unsettled;

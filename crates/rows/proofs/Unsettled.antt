@@ -1,9 +1,11 @@
 -- Refusal 11 arises in a row where, and only where, its pattern is unsettled. Assumes nothing.
 use mathlib.Core.Path.{_≡_, refl, _∙_}
 use mathlib.Core.Logic.{_⊎_, inl, inr}
+use native.Mathlib.Omega.{arith}
 use lib.Ieee.{Float}
-use Rattle.integrals.specs.Settled.{settledNumber, IsAnswer}
-use Rattle.integrals.proofs.Settled.{answers}
+use Rattle.single.specs.Answer.{IsAnswer}
+use Rattle.integrals.specs.Settled.{settledNumber}
+use Rattle.single.proofs.Answer.{answers}
 use Rattle.reflection.specs.Angles.{waveOf}
 use Rattle.patterns.specs.Pattern.{patternSettles, patternNumber}
 use Rattle.patterns.specs.declared.antenna.Antenna.{Antenna}
@@ -29,6 +31,6 @@ cases (Settled row turns) = inl refl
 cases Unsettled = inr refl
 
 pub row-answers : (antenna : Antenna) (fmc : Float) (r : RowAnswer) → r ≡ rowOf antenna fmc
-    → IsAnswer rowNumber rowValues zeroRow (rowOf antenna fmc) (patternSettles antenna (waveOf fmc)) r
+    → IsAnswer rowNumber rowValues zeroRow 11 (rowOf antenna fmc) (patternSettles antenna (waveOf fmc)) r
 row-answers antenna fmc =
-    answers rowNumber rowValues zeroRow cases (rowOf antenna fmc) (patternSettles antenna (waveOf fmc)) (row-number antenna fmc)
+    answers rowNumber rowValues zeroRow 11 (omega arith) cases (rowOf antenna fmc) (patternSettles antenna (waveOf fmc)) (row-number antenna fmc)

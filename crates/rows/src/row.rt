@@ -1,6 +1,6 @@
 // What holds for a row: everything that the antenna and the MHz give.
 ghost use mathlib.Core.Path.{_≡_};
-ghost use Rattle.integrals.specs.Settled.{IsAnswer};
+ghost use Rattle.single.specs.Answer.{IsAnswer};
 ghost use Rattle.reflection.specs.Angles.{waveOf};
 ghost use Rattle.patterns.specs.Pattern.{patternSettles};
 ghost use Rattle.rows.specs.Row.{offsetFor, heightFor, eff8For, rowOf, rowNumber, rowValues, zeroRow};
@@ -67,7 +67,7 @@ fn eff8_for(pattern: Pattern) -> f32
 }
 
 pub fn row_of(antenna: Antenna, fmc: f32) -> RowAnswer
-    ensures { λ r. ⌜ IsAnswer rowNumber rowValues zeroRow (rowOf antenna fmc) (patternSettles antenna (waveOf fmc)) r ⌝ }
+    ensures { λ r. ⌜ IsAnswer rowNumber rowValues zeroRow 11 (rowOf antenna fmc) (patternSettles antenna (waveOf fmc)) r ⌝ }
 {
     let wave = reflection::wave_of(fmc);
     let PatternAnswer::Settled(pattern, turns) = pattern_of(antenna, wave) else {

@@ -12,3 +12,4 @@ pub mod Positive
 pub mod Magnitude
 pub mod Bounded
 pub mod Floor
+pub mod Answer

@@ -1,10 +1,12 @@
 -- Refusal 11 arises in a row of types 2 and 5 where, and only where, one of its two integrals is unsettled. Assumes nothing.
 use mathlib.Core.Path.{_≡_, refl, _∙_}
 use mathlib.Core.Logic.{_⊎_, inl, inr}
+use native.Mathlib.Omega.{arith}
 use lib.Ieee.{Float}
 use Rattle.parameters.specs.declared.length.Length.{Length}
-use Rattle.integrals.specs.Settled.{settledNumber, IsAnswer}
-use Rattle.integrals.proofs.Settled.{answers}
+use Rattle.single.specs.Answer.{IsAnswer}
+use Rattle.integrals.specs.Settled.{settledNumber}
+use Rattle.single.proofs.Answer.{answers}
 use Rattle.resistance.specs.Resistance.{resistanceNumber}
 use Rattle.resistance.specs.declared.resistance.Resistance.{Resistance}
 use Rattle.resistance.specs.declared.resistance.Resistance.the-variants as Ra
@@ -28,6 +30,6 @@ cases (Row.Settled row turns) = inl refl
 cases Row.Unsettled = inr refl
 
 pub monopole-answers : (leg : Length) (wave : Float) (r : MonopoleRow) → r ≡ monopoleRow leg wave
-    → IsAnswer monopoleNumber monopoleValues zeroMonopole (monopoleRow leg wave) (monopoleSettles leg wave) r
+    → IsAnswer monopoleNumber monopoleValues zeroMonopole 11 (monopoleRow leg wave) (monopoleSettles leg wave) r
 monopole-answers leg wave =
-    answers monopoleNumber monopoleValues zeroMonopole cases (monopoleRow leg wave) (monopoleSettles leg wave) (monopole-number leg wave)
+    answers monopoleNumber monopoleValues zeroMonopole 11 (omega arith) cases (monopoleRow leg wave) (monopoleSettles leg wave) (monopole-number leg wave)

@@ -2,7 +2,7 @@
 // they differ in what is added to the gain, the height slot (2) or the first extra (5), and in the
 // floor, which type 2 has not: both are the caller's.
 ghost use mathlib.Core.Path.{_≡_};
-ghost use Rattle.integrals.specs.Settled.{IsAnswer};
+ghost use Rattle.single.specs.Answer.{IsAnswer};
 ghost use Rattle.verticals.specs.Monopole.{shortResistance, monopoleRow, notZero, monopoleRain};
 ghost use Rattle.verticals.specs.Monopole.{monopoleSettles, monopoleNumber, monopoleValues, zeroMonopole};
 use integrals::Turns;
@@ -42,7 +42,7 @@ fn short_resistance(el1: f32, ra: f32) -> f32
 }
 
 pub fn monopole_row(leg: Length, wave: f32) -> MonopoleRow
-    ensures { λ r. ⌜ IsAnswer monopoleNumber monopoleValues zeroMonopole (monopoleRow leg wave) (monopoleSettles leg wave) r ⌝ }
+    ensures { λ r. ⌜ IsAnswer monopoleNumber monopoleValues zeroMonopole 11 (monopoleRow leg wave) (monopoleSettles leg wave) r ⌝ }
 {
     let waves = parameters::monopole_in_waves(leg, wave);
     let d = 2.0 * waves.a;

@@ -15,10 +15,10 @@ loop-holds : tie.Need-loop-holds Inv-loop μ-loop
 loop-holds c = reading-start _ _ refl
 
 returns : tie.Need-returns Inv-loop μ-loop
-returns c = reading-fails _ _ _ _ _ (c .before .before .before .before .before .loop .inv) (c .before .before .before .before .loop-test .taken) (c .before .before .read-decimal .ensures) (c .enum-told .given .1)
+returns c = reading-fails _ _ _ _ _ (c .before .before .before .before .before .loop .inv) (c .before .before .before .before .loop-test .taken) (c .before .before .read-decimal .ensures .0) (c .enum-told .given .1)
 
 loop-again : tie.Need-loop-again Inv-loop μ-loop
-loop-again c = reading-step _ _ _ _ _ (c .before .before .before .before .before .before .loop .inv) (c .before .before .before .before .before .loop-test .taken) (c .before .before .before .read-decimal .ensures) (c .before .x .given .1)
+loop-again c = reading-step _ _ _ _ _ (c .before .before .before .before .before .before .loop .inv) (c .before .before .before .before .before .loop-test .taken) (c .before .before .before .read-decimal .ensures .0) (c .before .x .given .1)
 
 returns-2 : tie.Need-returns-2 Inv-loop μ-loop
 returns-2 c = reading-ends _ _ _ (c .before .loop .inv) (c .loop-test .left)

@@ -15,13 +15,13 @@ returns : tie.Need-returns
 returns c = c .malformed .ensures ∙ sym (wrong-length _ (c .before .if1 .taken))
 
 returns-2 : tie.Need-returns-2
-returns-2 c = no-type _ _ (c .malformed2 .ensures) (sym (c .before .before .before .read-integer .ensures) ∙ c .before .enum-told .given .1)
+returns-2 c = no-type _ _ (c .malformed2 .ensures) (sym (c .before .before .before .read-integer .ensures .0) ∙ c .before .enum-told .given .1)
 
 returns-3 : tie.Need-returns-3
-returns-3 c = no-first _ _ (c .malformed3 .ensures) (sym (c .before .before .before .read-integer2 .ensures) ∙ c .before .enum-told2 .given .1)
+returns-3 c = no-first _ _ (c .malformed3 .ensures) (sym (c .before .before .before .read-integer2 .ensures .0) ∙ c .before .enum-told2 .given .1)
 
 returns-4 : tie.Need-returns-4
-returns-4 c = no-last _ _ (c .malformed4 .ensures) (sym (c .before .before .before .read-integer3 .ensures) ∙ c .before .enum-told3 .given .1)
+returns-4 c = no-last _ _ (c .malformed4 .ensures) (sym (c .before .before .before .read-integer3 .ensures .0) ∙ c .before .enum-told3 .given .1)
 
 returns-5 : tie.Need-returns-5
 returns-5 c = no-decimals _ _ (c .malformed5 .ensures) _ _ (c .before .before .before .read-decimals .ensures) (not-true _ (c .before .if2 .taken))
@@ -35,7 +35,7 @@ reads c =
     let k = c .before .before .before .before .before .before .before .before .before .before .before .before .before .before in
     let f = c .before .before .before .before .before .before .before .before .before in
     let l = c .before .before .before .before in
-    (sym (k .before .before .read-integer .ensures) ∙ k .kop .given .1, sym (f .before .before .read-integer2 .ensures) ∙ f .first .given .1, sym (l .before .before .read-integer3 .ensures) ∙ l .last .given .1)
+    (sym (k .before .before .read-integer .ensures .0) ∙ k .kop .given .1, sym (f .before .before .read-integer2 .ensures .0) ∙ f .first .given .1, sym (l .before .before .read-integer3 .ensures .0) ∙ l .last .given .1)
 
 returns-6 : tie.Need-returns-6
 returns-6 c =

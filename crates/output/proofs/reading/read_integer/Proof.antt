@@ -1,10 +1,11 @@
 use borrow.Author.Needs.{needs}
+use Rattle.output.proofs.Malformed.{integer-reading}
 use Rattle.output.proofs.Parts.{no-integer, casts, turns, negative, positive}
 use Rattle.output.proofs.reading.read_integer.Statement.{statement}
 use Rattle.output.proofs.reading.read_integer.Tie as tie
 
 returns : tie.Need-returns
-returns c = no-integer _ _ (c .before .before .signed-digits .ensures) (c .enum-told .given .1)
+returns c = integer-reading _ _ (no-integer _ _ (c .before .before .signed-digits .ensures) (c .enum-told .given .1))
 
 cast-t6 : tie.Need-cast-t6
 cast-t6 c = casts _ _ (c .before .before .before .before .signed-digits .ensures) _ _ (c .before .before .minus .given .1)
@@ -13,13 +14,13 @@ sub-t7 : tie.Need-sub-t7
 sub-t7 c = turns _ _ (c .before .before .before .before .signed-digits .ensures) _ _ (c .before .before .minus .given .1)
 
 returns-2 : tie.Need-returns-2
-returns-2 c = negative _ _ (c .before .before .before .before .signed-digits .ensures) _ _ (c .before .before .minus .given .1) (c .if1 .taken)
+returns-2 c = integer-reading _ _ (negative _ _ (c .before .before .before .before .signed-digits .ensures) _ _ (c .before .before .minus .given .1) (c .if1 .taken))
 
 cast-t8 : tie.Need-cast-t8
 cast-t8 c = casts _ _ (c .before .before .before .before .signed-digits .ensures) _ _ (c .before .before .minus .given .1)
 
 returns-3 : tie.Need-returns-3
-returns-3 c = positive _ _ (c .before .before .before .before .signed-digits .ensures) _ _ (c .before .before .minus .given .1) (c .if1 .left)
+returns-3 c = integer-reading _ _ (positive _ _ (c .before .before .before .before .signed-digits .ensures) _ _ (c .before .before .minus .given .1) (c .if1 .left))
 
 pub read-integer-spec : {M : Type 1} → statement M
 read-integer-spec =
