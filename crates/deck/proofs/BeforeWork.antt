@@ -13,7 +13,7 @@ use Rattle.table.specs.Table.{isTable}
 use Rattle.independence.specs.Deck.{Deck}
 use Rattle.independence.specs.Contracts.{refusalBeforeWork, malformedRefusal}
 use Rattle.independence.proofs.Calls.{found-last}
-use Rattle.deck_state.specs.DeckState.{countLimit, stateRefusal}
+use Rattle.deck_state.specs.DeckState.{countLimit, deckRefusal}
 use Rattle.deck.specs.declared.fields.Fields.{Fields}
 use Rattle.deck.specs.Fields.{fieldsRefusal}
 use Rattle.deck.specs.Antenna.{theAntenna}
@@ -31,18 +31,18 @@ module _ (d : Deck) (t : List Float) where
   abbrev counts : Bool
   counts = leb countLimit (d .accepted + d .refused)
 
-  pub state-refuses : (f : Fields) → stateRefusal d t ≢ 0 → refusalBeforeWork theAntenna countLimit d f t ≡ stateRefusal d t
-  unfolding refusalBeforeWork stateRefusal firstRefusal
+  pub state-refuses : (f : Fields) → deckRefusal d t ≢ 0 → refusalBeforeWork theAntenna countLimit d f t ≡ deckRefusal d t
+  unfolding refusalBeforeWork deckRefusal firstRefusal
   state-refuses f n = first counts (not (finite (d .height))) (not (isTable t)) _ .0 n
 
-  pub fields-refuse : (f : Fields) → stateRefusal d t ≡ 0 → refusalBeforeWork theAntenna countLimit d f t ≡ fieldsRefusal f
-  unfolding refusalBeforeWork stateRefusal firstRefusal
+  pub fields-refuse : (f : Fields) → deckRefusal d t ≡ 0 → refusalBeforeWork theAntenna countLimit d f t ≡ fieldsRefusal f
+  unfolding refusalBeforeWork deckRefusal firstRefusal
   fields-refuse f e = first counts (not (finite (d .height))) (not (isTable t)) _ .1 e ∙ found-last (fieldsRefusal f)
 
-  pub state-refuses-malformed : stateRefusal d t ≢ 0 → malformedRefusal theAntenna countLimit d t ≡ stateRefusal d t
-  unfolding malformedRefusal stateRefusal firstRefusal
+  pub state-refuses-malformed : deckRefusal d t ≢ 0 → malformedRefusal theAntenna countLimit d t ≡ deckRefusal d t
+  unfolding malformedRefusal deckRefusal firstRefusal
   state-refuses-malformed n = first counts (not (finite (d .height))) (not (isTable t)) 8 .0 n
 
-  pub line-refuses : stateRefusal d t ≡ 0 → malformedRefusal theAntenna countLimit d t ≡ 8
-  unfolding malformedRefusal stateRefusal firstRefusal
+  pub line-refuses : deckRefusal d t ≡ 0 → malformedRefusal theAntenna countLimit d t ≡ 8
+  unfolding malformedRefusal deckRefusal firstRefusal
   line-refuses e = first counts (not (finite (d .height))) (not (isTable t)) 8 .1 e

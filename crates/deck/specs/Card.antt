@@ -2,12 +2,11 @@
 use Prim.Native.Nat.{ℕ}
 use lib.Ieee.{Float}
 use Rattle.single.specs.Single.{num, whole}
-use Rattle.parameters.specs.Length.{lengthOf}
+use Rattle.parameters.specs.Length.{lengthOf, heightSlotOf}
 use Rattle.patterns.specs.Antenna.{antennaWith}
 use Rattle.patterns.specs.declared.antenna.Antenna.{Antenna}
-use Rattle.gain_core.specs.Core.{workOf}
+use Rattle.gain_core.specs.Core.{workOf, workNumber, workGain, workEfficiency, workHeight}
 use Rattle.gain_core.specs.declared.core.Worked.{Worked}
-use Rattle.gain_core.specs.declared.core.Worked.the-variants as W
 use Rattle.independence.specs.Antenna.{Answer}
 use Rattle.deck.specs.declared.fields.Fields.{Fields}
 use Rattle.deck.specs.declared.card.Card.{Card}
@@ -24,7 +23,7 @@ cardOf f =
       toaz = f .toaz;
       params = paramsFor f;
       leg = lengthOf (paramsFor f .anl);
-      height = lengthOf (paramsFor f .anh);
+      height = heightSlotOf (f .kop) (paramsFor f .anh);
       model = f .model;
     }
 
@@ -34,8 +33,7 @@ antennaFor c = antennaWith (c .kop) (c .toaz) (c .params) (c .leg) (c .height) (
 
 -- 11 arises in the work. It ends the card, which keeps the height that it found, so no height is taken from such a call
 abbrev pub answerOf : Worked → Answer
-answerOf (W.Settled call) = record { refusal = 0; gain = call .gain; efficiency = call .efficiency; height = call .height }
-answerOf W.Unsettled = record { refusal = 11; gain = num 0 1; efficiency = num 0 1; height = num 0 1 }
+answerOf w = record { refusal = workNumber w; gain = workGain w; efficiency = workEfficiency w; height = workHeight w (num 0 1) }
 
 -- the gain call at m MHz and d degrees, with the height h
 unfoldable pub callOf : Card → ℕ → ℕ → Float → Answer

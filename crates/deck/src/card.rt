@@ -38,7 +38,7 @@ pub(crate) fn read_card(fields: Fields) -> Card
         toaz,
         params,
         leg: parameters::read_length(params.anl),
-        height: parameters::read_length(params.anh),
+        height: parameters::read_height(kop, params.anh),
         model,
     }
 }

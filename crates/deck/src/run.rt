@@ -7,8 +7,8 @@ use crate::fields::Fields;
 use crate::fields::card_refusal;
 use crate::filling::fill_card;
 use deck_state::Deck;
+use deck_state::deck_refusal;
 use deck_state::refused_deck;
-use deck_state::state_refusal;
 
 // The refusal of a malformed line.
 const MALFORMED: u32 = 8;
@@ -23,7 +23,7 @@ pub struct CardAnswer {
 fn refusal_before_work(deck: Deck, fields: Fields, table: &[f32]) -> u32
     ensures { λ r. ⌜ r ≡ refusalBeforeWork theAntenna countLimit (stateOf deck) fields (now (table .entry)) ⌝ }
 {
-    let verdict = state_refusal(deck, table);
+    let verdict = deck_refusal(deck, table);
     if verdict != 0 {
         return verdict;
     }
@@ -33,7 +33,7 @@ fn refusal_before_work(deck: Deck, fields: Fields, table: &[f32]) -> u32
 fn malformed_refusal(deck: Deck, table: &[f32]) -> u32
     ensures { λ r. ⌜ r ≡ malformedRefusal theAntenna countLimit (stateOf deck) (now (table .entry)) ⌝ }
 {
-    let verdict = state_refusal(deck, table);
+    let verdict = deck_refusal(deck, table);
     if verdict != 0 {
         return verdict;
     }

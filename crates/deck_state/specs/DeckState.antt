@@ -5,7 +5,7 @@ use mathlib.Core.List.{List, []}
 use lib.Dec.{leb}
 use lib.Ieee.{Float}
 use Rattle.limits.specs.Refusals.{firstRefusal}
-use Rattle.independence.specs.Deck.{Deck, stateTests, refusedDeck}
+use Rattle.independence.specs.Deck.{Deck, deckTests, refusedDeck}
 use Rattle.deck_state.specs.declared.Deck as D
 
 -- refusal 10 begins here
@@ -19,8 +19,8 @@ abbrev pub isFull : Deck → Bool
 isFull d = leb countLimit (d .accepted + d .refused)
 
 -- 10, 9 and 7
-unfoldable pub stateRefusal : Deck → List Float → ℕ
-stateRefusal d t = firstRefusal (stateTests countLimit d t [])
+unfoldable pub deckRefusal : Deck → List Float → ℕ
+deckRefusal d t = firstRefusal (deckTests countLimit d t [])
 
 -- the deck after a refusal by v; a full deck's counts stay
 unfoldable pub refusedWithin : Deck → ℕ → Deck

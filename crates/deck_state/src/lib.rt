@@ -1,7 +1,7 @@
 // A deck's carried height and counts: document 01 section 8.
 ghost use mathlib.Core.Path.{_≡_};
 ghost use Rattle.independence.specs.Deck.{fresh};
-ghost use Rattle.deck_state.specs.DeckState.{stateOf, isFull, stateRefusal, refusedWithin};
+ghost use Rattle.deck_state.specs.DeckState.{stateOf, isFull, deckRefusal, refusedWithin};
 
 // From here on a card is refused by 10.
 const COUNT_LIMIT: u64 = 1_000_000;
@@ -30,8 +30,8 @@ fn is_full(deck: Deck) -> bool
 }
 
 // Refusals 10, 9 and 7: what is refused of any entry.
-pub fn state_refusal(deck: Deck, table: &[f32]) -> u32
-    ensures { λ r. ⌜ r ≡ stateRefusal (stateOf deck) (now (table .entry)) ⌝ }
+pub fn deck_refusal(deck: Deck, table: &[f32]) -> u32
+    ensures { λ r. ⌜ r ≡ deckRefusal (stateOf deck) (now (table .entry)) ⌝ }
 {
     if is_full(deck) {
         return 10;

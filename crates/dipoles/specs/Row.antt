@@ -22,8 +22,8 @@ unfoldable pub cotangent : Float → Float
 cotangent x = num 1 1 ⊘ tangent x
 
 -- xr, from the integrals at fac * 4 and at fac * 2
-unfoldable pub resistance : Float → Integrals → Integrals → Float
-resistance fac at2kl atkl =
+unfoldable pub xrOf : Float → Integrals → Integrals → Float
+xrOf fac at2kl atkl =
     let g = cotangent fac in
     let cin-kl = num 577 1000 ⊞ logarithm (num 2 1 ⊠ fac) ⊟ atkl .ci in
     let cin-2kl = num 577 1000 ⊞ logarithm (num 4 1 ⊠ fac) ⊟ at2kl .ci in
@@ -32,7 +32,7 @@ resistance fac at2kl atkl =
 abbrev pub dipoleFrom : Float → Float → IntegralPair → DipoleRow
 dipoleFrom fac hwave (Pair.Settled at2kl atkl turns) =
     Row.Settled
-    (record { fac = fac; cfac = cosine fac; scale = num 120 1 ⊘ resistance fac at2kl atkl; hwave2 = num 2 1 ⊠ hwave })
+    (record { fac = fac; cfac = cosine fac; scale = num 120 1 ⊘ xrOf fac at2kl atkl; hwave2 = num 2 1 ⊠ hwave })
     turns
 dipoleFrom fac hwave Pair.Unsettled = Row.Unsettled
 

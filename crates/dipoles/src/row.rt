@@ -1,7 +1,7 @@
 // What holds for a whole row, whatever the azimuth: the phases and the radiation resistance.
 ghost use mathlib.Core.Path.{_≡_};
 ghost use Rattle.single.specs.Answer.{IsAnswer};
-ghost use Rattle.dipoles.specs.Row.{cotangent, resistance, dipoleRow};
+ghost use Rattle.dipoles.specs.Row.{cotangent, xrOf, dipoleRow};
 ghost use Rattle.dipoles.specs.Row.{dipoleSettles, dipoleNumber, dipoleValues, zeroDipole};
 use integrals::IntegralPair;
 use integrals::Integrals;
@@ -29,8 +29,8 @@ fn cot(x: f32) -> f32
 }
 
 // `xr`, from the integrals at `fac * 4` and at `fac * 2`.
-fn resistance_of(fac: f32, at2kl: Integrals, atkl: Integrals) -> f32
-    ensures { λ r. ⌜ r ≡ resistance fac at2kl atkl ⌝ }
+fn xr_of(fac: f32, at2kl: Integrals, atkl: Integrals) -> f32
+    ensures { λ r. ⌜ r ≡ xrOf fac at2kl atkl ⌝ }
 {
     let g = cot(fac);
     let cin_kl = 0.577 + elementary::ln(2.0 * fac) - atkl.ci;
@@ -46,7 +46,7 @@ pub fn dipole_row(fac: f32, hwave: f32) -> DipoleRow
     let IntegralPair::Settled(at2kl, atkl, turns) = integral_pair(fac * 4.0, fac * 2.0) else {
         return DipoleRow::Unsettled;
     };
-    let xr = resistance_of(fac, at2kl, atkl);
+    let xr = xr_of(fac, at2kl, atkl);
     let cfac = elementary::cos(fac);
     DipoleRow::Settled(
         Dipole {

@@ -8,7 +8,7 @@ use Rattle.limits.specs.Refusals.{firstRefusal}
 use Rattle.table.specs.Table.{columnCount}
 use Rattle.independence.specs.Antenna.{Antenna}
 use Rattle.independence.specs.Filling.{heightAt, cellsRefusal, rowIn, cardHeight, cardRefusal, rowsIn, rowsOf}
-use Rattle.independence.specs.Deck.{Deck, Entry, Outcome, stateTests, malformedTest, found, outcomeOn, deckAfter}
+use Rattle.independence.specs.Deck.{Deck, Entry, Outcome, deckTests, malformedTest, found, outcomeOn, deckAfter}
 
 module _ (A : Antenna) where
   -- The row at m MHz of a card with the incoming height h: `refusal` (0 if none) and the height `left`; the table t becomes t′.
@@ -29,10 +29,10 @@ module _ (A : Antenna) where
   module _ (limit : ℕ) where
     -- the refusals that come before the work: of a card, and of a malformed line
     unfoldable pub refusalBeforeWork : Deck → A .Card → List Float → ℕ
-    refusalBeforeWork d c t = firstRefusal (stateTests limit d t (found (A .inputRefusal c) ∷ []))
+    refusalBeforeWork d c t = firstRefusal (deckTests limit d t (found (A .inputRefusal c) ∷ []))
 
     unfoldable pub malformedRefusal : Deck → List Float → ℕ
-    malformedRefusal d t = firstRefusal (stateTests limit d t (malformedTest ∷ []))
+    malformedRefusal d t = firstRefusal (deckTests limit d t (malformedTest ∷ []))
 
     -- an entry on the deck d: its table becomes t′; the verdict v and the deck d′ are returned
     pub record EntryDone (d : Deck) (e : Entry A) (t′ : List Float) (v : ℕ) (d′ : Deck) : Type 0 where

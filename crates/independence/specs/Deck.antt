@@ -34,7 +34,7 @@ pub record Entry (A : Antenna) : Type 0 where
   pub line : Line A
   pub table : List Float
 
--- ---- the tests of the state, and a refusal already found (0 is none) as a test
+-- ---- the tests of the deck and the table, and a refusal already found (0 is none) as a test
 abbrev pub countTest : ℕ → Deck → Test
 countTest limit d = refuse 10 (leb limit (d .accepted + d .refused))
 
@@ -45,8 +45,8 @@ abbrev pub found : ℕ → Test
 found number = refuse number (not (eqb number 0))
 
 -- Order: 10, 9, 7, then the others
-abbrev pub stateTests : ℕ → Deck → List Float → List Test → List Test
-stateTests limit d t others = countTest limit d ∷ heightTest (d .height) ∷ lengthTest t ∷ others
+abbrev pub deckTests : ℕ → Deck → List Float → List Test → List Test
+deckTests limit d t others = countTest limit d ∷ heightTest (d .height) ∷ lengthTest t ∷ others
 
 -- ---- the tests of an entry's own: 7, then 8 of a malformed line, 1 to 5 and 11 of a card; and what it leaves if it is accepted, as no malformed line is
 module _ (A : Antenna) where
@@ -81,9 +81,9 @@ refusedIn (o ∷ os) = cond (eqb (o .verdict) 0) (refusedIn os) (suc (refusedIn 
 
 -- ---- an entry on a deck, and a list of entries in turn, where refusal 10 begins at `limit`
 module _ (A : Antenna) (limit : ℕ) where
-  -- the state's, then the line's
+  -- the deck and table's, then the line's
   unfoldable pub verdictOn : Deck → Entry A → ℕ
-  verdictOn d e = firstRefusal (stateTests limit d (e .table) (lineTests A (e .line) (d .height)))
+  verdictOn d e = firstRefusal (deckTests limit d (e .table) (lineTests A (e .line) (d .height)))
 
   -- the table and the deck by the verdict
   unfoldable pub tableBy : Entry A → Float → ℕ → List Float

@@ -7,7 +7,7 @@ pub struct Integrals {
     pub si: f32,
 }
 
-pub fn rational(x: f32) -> Integrals
+pub(crate) fn rational(x: f32) -> Integrals
     ensures { λ r. ⌜ r ≡ rationalOf x ⌝ }
 {
     let x2 = x * x;

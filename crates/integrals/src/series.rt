@@ -35,14 +35,14 @@ fn sum_series(first: f32, start: f32, from: f32, sq: f32) -> SeriesSum
     }
 }
 
-pub fn ci_series(x: f32) -> SeriesSum
+pub(crate) fn ci_series(x: f32) -> SeriesSum
     ensures { λ r. ⌜ IsAnswer seriesNumber seriesValue (num 0 1) 11 (ciSeries x) (ciSettles x) r ⌝ }
 {
     let sq = x * x;
     sum_series(0.5772156649 + elementary::ln(x), -sq / 4.0, 4.0, sq)
 }
 
-pub fn si_series(x: f32) -> SeriesSum
+pub(crate) fn si_series(x: f32) -> SeriesSum
     ensures { λ r. ⌜ IsAnswer seriesNumber seriesValue (num 0 1) 11 (siSeries x) (siSettles x) r ⌝ }
 {
     sum_series(0.0, x, 3.0, x * x)

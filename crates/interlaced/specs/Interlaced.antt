@@ -10,7 +10,7 @@ use Rattle.rhombics.specs.declared.legs.Legs.{Legs}
 use Rattle.interlaced.specs.declared.interlaced.Offset.{Offset}
 use Rattle.rhombics.specs.Legs.{elfacOf}
 
--- the second rhombic stands ht above and ss beside the first, at the distance d
+-- the second rhombic stands ht above the first and ss before it, along the axis, at the distance d
 unfoldable pub offsetOf : Float → Float → Float → Offset
 offsetOf ht ss wave =
     let d = root (ss ⊠ ss ⊞ ht ⊠ ht) in
@@ -34,15 +34,15 @@ unfoldable pub sineCosine : Float → SineCosine
 sineCosine x = record { sine = sine x; cosine = cosine x }
 
 -- h1v and h2 of ch and yh; v1 and v2 are the same of cv and yv
-unfoldable pub h1Of : Float → SineCosine → SineCosine → SineCosine → Float
-h1Of c yh y z = num 1 1 ⊞ y .cosine ⊟ c ⊠ (yh .cosine ⊠ (num 1 1 ⊞ z .cosine) ⊟ yh .sine ⊠ z .sine)
+unfoldable pub h1vOf : Float → SineCosine → SineCosine → SineCosine → Float
+h1vOf c yh y z = num 1 1 ⊞ y .cosine ⊟ c ⊠ (yh .cosine ⊠ (num 1 1 ⊞ z .cosine) ⊟ yh .sine ⊠ z .sine)
 
 unfoldable pub h2Of : Float → SineCosine → SineCosine → SineCosine → Float
 h2Of c yh y z = neg (y .sine) ⊟ c ⊠ (neg (yh .sine) ⊠ (num 1 1 ⊞ z .cosine) ⊟ yh .cosine ⊠ z .sine)
 
 -- hk, and vk
 unfoldable pub hkOf : Float → SineCosine → SineCosine → SineCosine → Float
-hkOf c yh y z = h1Of c yh y z ⊠ h1Of c yh y z ⊞ h2Of c yh y z ⊠ h2Of c yh y z
+hkOf c yh y z = h1vOf c yh y z ⊠ h1vOf c yh y z ⊞ h2Of c yh y z ⊠ h2Of c yh y z
 
 unfoldable pub interlacedOf : Legs → Offset → Elevation → Ground → Float
 interlacedOf legs o e ground =

@@ -1,8 +1,10 @@
 -- Document 01 section 8: lengths by kind, and their three roles in `iongain2` against the call's wave. Definitions only.
 use mathlib.Core.Bool.{cond}
+use lib.IntN.{ℤ}
 use lib.Ieee.{Float, neg, lt}
 use Rattle.single.specs.Single.{_⊠_, _⊘_, num}
 use Rattle.elementary.specs.Basic.{absolute}
+use Rattle.parameters.specs.Params.{isType}
 use Rattle.parameters.specs.declared.length.Length.{Length}
 use Rattle.parameters.specs.declared.length.Length.the-variants.{Metres, Wavelengths}
 use Rattle.parameters.specs.declared.length.LegInWaves.{LegInWaves}
@@ -13,6 +15,10 @@ use Rattle.parameters.specs.declared.length.MonopoleInWaves.{MonopoleInW
 -- a negative number gives wavelengths of the opposite sign, any other gives metres
 unfoldable pub lengthOf : Float → Length
 lengthOf v = cond (lt v (num 0 1)) (Wavelengths (neg v)) (Metres v)
+
+-- the height slot of a type. "Type 2's height slot stays a plain gain": no length is read from it
+unfoldable pub heightSlotOf : ℤ → Float → Length
+heightSlotOf kop anh = cond (isType kop 2) (Metres (num 0 1)) (lengthOf anh)
 
 -- the leg: fac and el1
 unfoldable pub legOf : Length → Float → LegInWaves

@@ -1,6 +1,6 @@
 // Document 01 section 8: a length is in metres or in wavelengths, said by its kind.
 ghost use mathlib.Core.Path.{_≡_};
-ghost use Rattle.parameters.specs.Length.{lengthOf, legOf, phaseOf, heightOf, monopoleOf};
+ghost use Rattle.parameters.specs.Length.{heightSlotOf, lengthOf, legOf, phaseOf, heightOf, monopoleOf};
 
 pub enum Length {
     Metres(f32),
@@ -39,6 +39,16 @@ pub fn read_length(v: f32) -> Length
         return Length::Wavelengths(-v);
     }
     Length::Metres(v)
+}
+
+// Type 2's `anh` stays a gain in the parameters: no length is read from it.
+pub fn read_height(kop: i32, anh: f32) -> Length
+    ensures { λ r. ⌜ r ≡ heightSlotOf kop anh ⌝ }
+{
+    match kop {
+        2 => Length::Metres(0.0),
+        _ => read_length(anh),
+    }
 }
 
 pub fn leg_in_waves(length: Length, wave: f32) -> LegInWaves

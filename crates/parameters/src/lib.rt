@@ -11,6 +11,7 @@ pub use length::MonopoleInWaves;
 pub use length::height_in_waves;
 pub use length::leg_in_waves;
 pub use length::monopole_in_waves;
+pub use length::read_height;
 pub use length::read_length;
 pub use model::Fixes;
 pub use model::Model;

@@ -43,6 +43,6 @@ pub fn antenna_of(kop: i32, toaz: f32, params: IoncapParams, model: Model) -> An
     ensures { λ r. ⌜ r ≡ antennaOf kop toaz params model ⌝ }
 {
     let leg = parameters::read_length(params.anl);
-    let height = parameters::read_length(params.anh);
+    let height = parameters::read_height(kop, params.anh);
     antenna_with(kop, toaz, params, leg, height, model)
 }

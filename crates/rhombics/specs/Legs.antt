@@ -7,7 +7,7 @@ use Rattle.reflection.specs.declared.angles.Elevation.{Elevation}
 use Rattle.reflection.specs.Angles.{radiansOf}
 use Rattle.rhombics.specs.declared.legs.Legs.{Legs}
 
--- the card's angle and off-azimuth, fac and hwave. Type 10 writes rhi + reta the other way round, which is the same sum: proofs/Sum.antt
+-- the card's angle and off-azimuth, fac and hwave. sisum and sidif are the sines of rhi + reta and rhi - reta (types 7 and 9 take reta - rhi). Type 10 writes rhi + reta the other way round, which is the same sum: proofs/Sum.antt
 unfoldable pub legsOf : Float → Azimuth → Float → Float → Legs
 legsOf phi azimuth fac hwave =
     let rhi = radiansOf phi in

@@ -24,8 +24,8 @@ use Rattle.rows.specs.declared.row.RowAnswer.{RowAnswer}
 use Rattle.rows.specs.declared.row.RowAnswer.the-variants.{Settled, Unsettled}
 
 -- `sok`: type 2's gain, nothing for 7, 9 and 10, else the first extra
-unfoldable pub offsetFor : ℤ → IoncapParams → Float
-offsetFor kop params =
+unfoldable pub sokFor : ℤ → IoncapParams → Float
+sokFor kop params =
     cond (isType kop 2) (params .anh) (cond (isType kop 7 || isType kop 9 || isType kop 10) (num 0 1) (getD (params .aex) 0 nan))
 
 -- `x`, the height that a cell above the ground leaves: in wavelengths for types 2 and 5, else 1
@@ -54,7 +54,7 @@ rowFrom antenna fmc (A.Settled pattern turns) =
       pattern = pattern;
       soil = soilOf (antenna .params .asig) (antenna .params .aeps) fmc;
       eff = efficiencyOf kop x (eff8For pattern);
-      sok = offsetFor kop (antenna .params);
+      sok = sokFor kop (antenna .params);
       x = x;
       threshold = curtainElevationThreshold (antenna .model);
     })

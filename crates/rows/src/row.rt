@@ -3,7 +3,7 @@ ghost use mathlib.Core.Path.{_≡_};
 ghost use Rattle.single.specs.Answer.{IsAnswer};
 ghost use Rattle.reflection.specs.Angles.{waveOf};
 ghost use Rattle.patterns.specs.Pattern.{patternSettles};
-ghost use Rattle.rows.specs.Row.{offsetFor, heightFor, eff8For, rowOf, rowNumber, rowValues, zeroRow};
+ghost use Rattle.rows.specs.Row.{sokFor, heightFor, eff8For, rowOf, rowNumber, rowValues, zeroRow};
 use integrals::Turns;
 use parameters::IoncapParams;
 use parameters::Length;
@@ -32,8 +32,8 @@ pub enum RowAnswer {
 }
 
 // `sok`.
-fn offset_for(kop: i32, params: IoncapParams) -> f32
-    ensures { λ r. ⌜ r ≡ offsetFor kop params ⌝ }
+fn sok_for(kop: i32, params: IoncapParams) -> f32
+    ensures { λ r. ⌜ r ≡ sokFor kop params ⌝ }
 {
     let aex = params.aex;
     match kop {
@@ -87,7 +87,7 @@ pub fn row_of(antenna: Antenna, fmc: f32) -> RowAnswer
         pattern,
         soil: reflection::soil_of(params.asig, params.aeps, fmc),
         eff: finish::efficiency(kop, x, eff8),
-        sok: offset_for(kop, params),
+        sok: sok_for(kop, params),
         x,
         threshold: parameters::curtain_elevation_threshold(model),
     };

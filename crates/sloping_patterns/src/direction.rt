@@ -31,7 +31,7 @@ pub struct Field {
     pub im: f32,
 }
 
-pub fn direction_of(slope: Slope, elevation: Elevation) -> Direction
+pub(crate) fn direction_of(slope: Slope, elevation: Elevation) -> Direction
     ensures { λ r. ⌜ r ≡ directionOf slope elevation ⌝ }
 {
     let Slope {
@@ -58,7 +58,7 @@ pub fn direction_of(slope: Slope, elevation: Elevation) -> Direction
     }
 }
 
-pub fn reflected_of(psih: f32, psiv: f32, hwave2: f32, q: f32) -> ReflectedPhase
+pub(crate) fn reflected_of(psih: f32, psiv: f32, hwave2: f32, q: f32) -> ReflectedPhase
     ensures { λ r. ⌜ r ≡ reflectedOf psih psiv hwave2 q ⌝ }
 {
     let horizontal = elementary::sin_cos(psih - hwave2 * q);

@@ -1,7 +1,7 @@
 // The gain call over a carried height that the caller keeps, as `state` in the Rust.
 ghost use mathlib.Core.Path.{_≡_};
-ghost use Rattle.ioncap.specs.Gain.{gainOf, gainNumber, gainValue, efficiencyValue, heightLeft};
-ghost use Rattle.ioncap.specs.Gain.{callNumber, callGain, callEfficiency};
+ghost use Rattle.ioncap.specs.Gain.{gainOf, gainNumber, gainValue, efficiencyValue};
+ghost use Rattle.ioncap.specs.Gain.{callNumber, callGain, callEfficiency, callHeight};
 use ioncap::Gain;
 use ioncap::GainCall;
 
@@ -14,7 +14,7 @@ pub fn iongain(state: &mut IoncapState, call: GainCall) -> Gain
         × (gainNumber r ≡ callNumber call (now (state .entry) .x))
         × (gainValue r ≡ callGain call (now (state .entry) .x))
         × (efficiencyValue r ≡ callEfficiency call (now (state .entry) .x))
-        × (now (state .exit) .x ≡ heightLeft (gainOf call (now (state .entry) .x)) (now (state .entry) .x)) ⌝ }
+        × (now (state .exit) .x ≡ callHeight call (now (state .entry) .x)) ⌝ }
 {
     let x = state.x;
     let answer = ioncap::gain_of(call, x);

@@ -15,7 +15,7 @@ use Rattle.single.specs.Single.{_⊞_, _⊟_, _⊠_, num, signed}
 use Rattle.single.proofs.Magnitude.{Mag, mag-of, mul-mag, add-mag, sub-mag}
 use Rattle.basic.specs.WholePart.{wholePart}
 use Rattle.basic.proofs.WholePart.{cut-parts}
-use Rattle.trigonometric.specs.Trigonometric.{twoOverPi, inRange, argument, turns, rest, reduced, quadrantOf, byQuadrant, sinePart, cosinePart, sineAt, cosineAt, sine, cosine}
+use Rattle.trigonometric.specs.Trigonometric.{twoOverPi, inRange, turnsArgument, turns, rest, reduced, quadrantOf, byQuadrant, sinePart, cosinePart, sineAt, cosineAt, sine, cosine}
 use Rattle.trigonometric.specs.Turns.{turnsFloat, quadrantBy}
 
 quadrant-parts : (s : Bool) (k : ℕ) → quadrantBy s k ≡ quadrantOf (signed s k)
@@ -40,25 +40,25 @@ module _ (x : Float) (h : inRange x ≡ true) where
   unfolding round
   product-mag = mul-mag x twoOverPi (2 ^ 20) 1 20 refl range-mag (lit≤ tt) (lit≤ tt)
 
-  pub argument-mag : Mag (2 ^ 21) (argument x)
-  unfolding argument
+  pub argument-mag : Mag (2 ^ 21) (turnsArgument x)
+  unfolding turnsArgument
   argument-mag = go (lt x (num 0 1))
     where
       go : (b : Bool) → Mag (2 ^ 21) (cond b (x ⊠ twoOverPi ⊟ num 5 10) (x ⊠ twoOverPi ⊞ num 5 10))
       go true = unfold round in sub-mag (x ⊠ twoOverPi) (num 5 10) (2 ^ 20) 1 21 refl product-mag (lit≤ tt) (lit≤ tt)
       go false = unfold round in add-mag (x ⊠ twoOverPi) (num 5 10) (2 ^ 20) 1 21 refl product-mag (lit≤ tt) (lit≤ tt)
 
-  turns-parts : turns x ≡ signed (lt (argument x) (ofBits binary32 0)) (wholePart (argument x))
-  unfolding turns argument
-  turns-parts = cut-parts (argument x) argument-mag
+  turns-parts : turns x ≡ signed (lt (turnsArgument x) (ofBits binary32 0)) (wholePart (turnsArgument x))
+  unfolding turns turnsArgument
+  turns-parts = cut-parts (turnsArgument x) argument-mag
 
   -- the code's steps: t, k, n, r and q
-  pub reduction-is : (t : Float) (k : ℕ) (n r : Float) (q : ℕ) → t ≡ argument x → k ≡ wholePart t → n ≡ turnsFloat (lt t (ofBits binary32 0)) k → r ≡ rest x n → q ≡ quadrantBy (lt t (ofBits binary32 0)) k
+  pub reduction-is : (t : Float) (k : ℕ) (n r : Float) (q : ℕ) → t ≡ turnsArgument x → k ≡ wholePart t → n ≡ turnsFloat (lt t (ofBits binary32 0)) k → r ≡ rest x n → q ≡ quadrantBy (lt t (ofBits binary32 0)) k
       → (q ≡ quadrantOf (turns x)) × (r ≡ reduced x) × (q < 4)
   unfolding turnsFloat reduced
   reduction-is t k n r q et ek en er eq =
       let s : Bool = lt t (ofBits binary32 0) in
-      let is : signed s k ≡ turns x = ap (signed s) (ek ∙ ap wholePart et) ∙ ap (λ (u : Float). signed (lt u (ofBits binary32 0)) (wholePart (argument x))) et ∙ sym turns-parts in (
+      let is : signed s k ≡ turns x = ap (signed s) (ek ∙ ap wholePart et) ∙ ap (λ (u : Float). signed (lt u (ofBits binary32 0)) (wholePart (turnsArgument x))) et ∙ sym turns-parts in (
         eq ∙ quadrant-parts s k ∙ ap quadrantOf is,
         er ∙ ap (rest x) (en ∙ ap (ofInt binary32) is),
         subst (λ (m : ℕ). m < 4) (sym eq) (quadrant-below s k),

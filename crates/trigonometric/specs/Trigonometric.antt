@@ -28,13 +28,13 @@ unfoldable pub inRange : Float → Bool
 inRange x = le (neg limit) x && le x limit
 
 -- what n is cut from
-unfoldable pub argument : Float → Float
-argument x = cond (lt x (num 0 1)) (x ⊠ twoOverPi ⊟ num 5 10) (x ⊠ twoOverPi ⊞ num 5 10)
+unfoldable pub turnsArgument : Float → Float
+turnsArgument x = cond (lt x (num 0 1)) (x ⊠ twoOverPi ⊟ num 5 10) (x ⊠ twoOverPi ⊞ num 5 10)
 
 -- n: the quarter turns nearest to the argument
 unfoldable pub turns : Float → ℤ
-unfolding argument
-turns x = cutToward (argument x)
+unfolding turnsArgument
+turns x = cutToward (turnsArgument x)
 
 -- r: what n quarter turns leave of the argument
 unfoldable pub rest : Float → Float → Float

@@ -5,7 +5,7 @@ ghost use Prim.Native.Nat.{_<_, _≤_, _^_};
 ghost use lib.Ieee.{binary32, mul};
 ghost use Rattle.single.proofs.Magnitude.{Mag};
 ghost use Rattle.basic.specs.WholePart.{wholePart};
-ghost use Rattle.trigonometric.specs.Trigonometric.{inRange, argument, turns, rest, reduced, quadrantOf};
+ghost use Rattle.trigonometric.specs.Trigonometric.{inRange, turnsArgument, turns, rest, reduced, quadrantOf};
 ghost use Rattle.trigonometric.specs.Trigonometric.{sinePart, cosinePart, sineAt, cosineAt};
 ghost use Rattle.trigonometric.specs.Trigonometric.{sine, cosine, tangent};
 ghost use Rattle.trigonometric.specs.Turns.{turnsFloat, quadrantBy};
@@ -28,7 +28,7 @@ fn in_range(x: f32) -> bool
 
 // What n is cut from.
 fn turns_argument(x: f32) -> f32
-    ensures { λ t. ⌜ t ≡ argument x ⌝ }
+    ensures { λ t. ⌜ t ≡ turnsArgument x ⌝ }
 {
     let t = x * 0.63661975;
     if x < 0.0 { t - 0.5 } else { t + 0.5 }

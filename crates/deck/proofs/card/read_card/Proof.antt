@@ -12,7 +12,7 @@ returns : tie.Need-returns
 unfolding cardOf
 returns c = let s = c .before .before .before .before .before .before .before .before .args .fields in
     let params : c .before .before .ioninit .result ≡ ioninitOf (s .kop) (s .slots) = c .before .before .ioninit .ensures ∙ ap (λ (k : ℤ). ioninitOf k (s .slots)) (toZ-ofZ w32 (s .kop) (search needs)) in
-    rw (toZ-ofZ w32 (s .kop) (search needs), toZ-ofZ w32 (s .first) (search needs), toZ-ofZ w32 (s .last) (search needs), ← params, ← c .before .read-length .ensures, ← c .read-length2 .ensures)
+    rw (c .read-height .ensures, toZ-ofZ w32 (s .kop) (search needs), toZ-ofZ w32 (s .first) (search needs), toZ-ofZ w32 (s .last) (search needs), ← params, ← c .before .read-length .ensures)
 
 pub read-card-spec : {M : Type 1} → statement M
 read-card-spec =

@@ -17,7 +17,7 @@ unfolding dipoleRow round ofBits
 returns-2 c = dipole-answers (c .before .before .before .before .before .before .args .fac) (c .before .before .before .before .before .before .args .hwave) _ (rw (
   ← c .before .before .before .before .before .integral-pair .ensures .0,
   c .before .before .before .at2kl .given .1,
-  ← c .before .resistance-of .ensures,
+  ← c .before .xr-of .ensures,
   ← c .cos .ensures,
 ))
 

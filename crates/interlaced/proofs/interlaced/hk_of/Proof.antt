@@ -1,11 +1,11 @@
 use mathlib.Core.Path.{refl}
 use lib.Ieee.{round, ofBits}
-use Rattle.interlaced.specs.Interlaced.{h1Of, h2Of, hkOf}
+use Rattle.interlaced.specs.Interlaced.{h1vOf, h2Of, hkOf}
 use Rattle.interlaced.proofs.interlaced.hk_of.Statement.{statement}
 use Rattle.interlaced.proofs.interlaced.hk_of.Tie as tie
 
 returns : tie.Need-returns
-unfolding h1Of h2Of hkOf round ofBits
+unfolding h1vOf h2Of hkOf round ofBits
 returns c = refl
 
 pub hk-of-spec : {M : Type 1} → statement M

@@ -8,7 +8,7 @@ use Rattle.patterns.proofs.antenna.antenna_of.Tie as tie
 
 returns : tie.Need-returns
 unfolding antennaOf
-returns c = c .antenna-with .ensures ∙ rw (toZ-ofZ w32 (c .before .before .before .args .kop) (search needs), ← c .before .before .read-length .ensures, ← c .before .read-length2 .ensures)
+returns c = c .antenna-with .ensures ∙ rw (c .before .read-height .ensures, toZ-ofZ w32 (c .before .before .before .args .kop) (search needs), ← c .before .before .read-length .ensures)
 
 pub antenna-of-spec : {M : Type 1} → statement M
 antenna-of-spec =
