@@ -9,7 +9,7 @@ use lib.IntN.{ℤ}
 use lib.ListN.{length, getD}
 use lib.Ieee.{Float, nan}
 use Rattle.output.specs.declared.reading.Integer.the-variants.{Number, Malformed}
-use Rattle.output.specs.Integer.{integerRefusal}
+use Rattle.output.specs.Integer.{integerNumber}
 use Rattle.output.specs.Decimal.{decimalValue}
 use Rattle.deck.specs.declared.fields.Fields.{Fields}
 use Rattle.card_line.specs.declared.line.Line.{Line}
@@ -33,11 +33,11 @@ module _ (l : List ℕ) (r : Line) (m : r ≡ malformedLine) where
 
   pub no-first : integerAt l 3 ≡ Malformed → r ≡ lineOf l
   unfolding integersRead
-  no-first e = no-integer (rw e (and-false (eqb (integerRefusal (integerAt l 0)) 0)))
+  no-first e = no-integer (rw e (and-false (eqb (integerNumber (integerAt l 0)) 0)))
 
   pub no-last : integerAt l 6 ≡ Malformed → r ≡ lineOf l
   unfolding integersRead
-  no-last e = no-integer (rw (e, and-false (eqb (integerRefusal (integerAt l 3)) 0)) (and-false (eqb (integerRefusal (integerAt l 0)) 0)))
+  no-last e = no-integer (rw (e, and-false (eqb (integerNumber (integerAt l 3)) 0)) (and-false (eqb (integerNumber (integerAt l 0)) 0)))
 
   pub no-decimals : (b : Bool) (v : List Float) → DecimalsDone l b v → b ≡ false → r ≡ lineOf l
   unfolding wellFormed
@@ -55,5 +55,5 @@ pub all-read : (l : List ℕ) (kop first last : ℤ) (b : Bool) (v : List Float)
 unfolding lineOf wellFormed wellFormedLine integersRead
 all-read l kop first last b v f n t s e d w i =
     let same = fields-same (narrowed kop) (narrowed first) (narrowed last) _ _ _ (λ k. getD v k nan) (λ k. decimalValue (decimalAt l k)) (narrowed-is l 0 kop t) (narrowed-is l 3 first s) (narrowed-is l 6 last e) (d .each w) in
-    rw (eq-eqb (length l) 119 n, ap integerRefusal t, ap integerRefusal s, ap integerRefusal e, ← d .all, w)
+    rw (eq-eqb (length l) 119 n, ap integerNumber t, ap integerNumber s, ap integerNumber e, ← d .all, w)
     (ap (λ (y : Fields). record { «well_formed» = true; fields = y }) (i ∙ same))

@@ -10,8 +10,8 @@ use Rattle.single.specs.Single.{num}
 use Rattle.parameters.specs.declared.model.Model.the-variants.{Compatible}
 use Rattle.output.specs.declared.reading.Integer.{Integer}
 use Rattle.output.specs.declared.reading.Decimal.{Decimal}
-use Rattle.output.specs.Integer.{integerOf, integerRefusal, integerValue}
-use Rattle.output.specs.Decimal.{decimalOf, decimalRefusal, decimalValue}
+use Rattle.output.specs.Integer.{integerOf, integerNumber, integerValue}
+use Rattle.output.specs.Decimal.{decimalOf, decimalNumber, decimalValue}
 use Rattle.deck.specs.declared.fields.Fields.{Fields}
 use Rattle.card_line.specs.declared.line.Line.{Line}
 
@@ -30,12 +30,12 @@ decimalAt l k = decimalOf (columns (9 + 11 * k) 11 l)
 -- type, first and last MHz are numbers
 unfoldable pub integersRead : List ℕ → Bool
 integersRead l =
-    eqb (integerRefusal (integerAt l 0)) 0 && (eqb (integerRefusal (integerAt l 3)) 0 && eqb (integerRefusal (integerAt l 6)) 0)
+    eqb (integerNumber (integerAt l 0)) 0 && (eqb (integerNumber (integerAt l 3)) 0 && eqb (integerNumber (integerAt l 6)) 0)
 
 -- the first n of the ten fields are numbers
 unfoldable pub decimalsRead : List ℕ → ℕ → Bool
 decimalsRead l zero = true
-decimalsRead l (suc n) = decimalsRead l n && eqb (decimalRefusal (decimalAt l n)) 0
+decimalsRead l (suc n) = decimalsRead l n && eqb (decimalNumber (decimalAt l n)) 0
 
 -- A card's fields, from its integers and the values of the ten fields: the off-azimuth's and those of slots 3, 4, 6 to 12. The 20 slots stand in their order
 unfoldable pub fieldsOf : ℤ → ℤ → ℤ → (ℕ → Float) → Fields

@@ -46,22 +46,22 @@ unfoldable pub cellOf : Row → Azimuth → Float → Elevation → Float
 cellOf row azimuth delta e = cellBy (row .pattern) row azimuth delta e
 
 -- the elevation of the second call, straight up
-abbrev pub upright : Float
-upright = rightAngle
+abbrev pub zenithElevation : Float
+zenithElevation = rightAngle
 
 -- `rain_90`: at azimuth 0
-unfoldable pub straightUp : Row → Float
-straightUp row = cellOf row (azimuthOf (num 0 1)) upright (elevationOf (cosine upright) (sine upright))
+unfoldable pub zenithGain : Row → Float
+zenithGain row = cellOf row (azimuthOf (num 0 1)) zenithElevation (elevationOf (cosine zenithElevation) (sine zenithElevation))
 
 -- by the sine's fourth power, which is the elevation's `s`
 unfoldable pub blendOf : Elevation → Float → Float → Float
-blendOf e up rain = up ⊠ e .s ⊞ rain ⊠ (num 1 1 ⊟ e .s)
+blendOf e zenith rain = zenith ⊠ e .s ⊞ rain ⊠ (num 1 1 ⊟ e .s)
 
 -- types 3 and 4
-unfoldable pub looksUp : ℤ → Bool
-looksUp kop = isType kop 3 || isType kop 4
+unfoldable pub blendsWithZenith : ℤ → Bool
+blendsWithZenith kop = isType kop 3 || isType kop 4
 
--- `iongain` above the ground, given the row's gain straight up
+-- `iongain` above the ground, given the row's gain at the zenith
 unfoldable pub cellGain : Row → Float → Azimuth → Float → Elevation → Float
-cellGain row up azimuth delta e =
-    cond (looksUp (row .kop)) (blendOf e up (cellOf row azimuth delta e)) (cellOf row azimuth delta e)
+cellGain row zenith azimuth delta e =
+    cond (blendsWithZenith (row .kop)) (blendOf e zenith (cellOf row azimuth delta e)) (cellOf row azimuth delta e)

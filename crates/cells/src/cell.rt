@@ -1,6 +1,6 @@
 // A cell above the ground: `iongain2`, and what `iongain` makes of it for types 3 and 4.
 ghost use mathlib.Core.Path.{_≡_};
-ghost use Rattle.cells.specs.Cell.{powerCell, curtainCell, cellOf, straightUp, blendOf, looksUp, cellGain};
+ghost use Rattle.cells.specs.Cell.{powerCell, curtainCell, cellOf, zenithGain, blendOf, blendsWithZenith, cellGain};
 use curtain::CurtainCard;
 use curtain::CurtainRow;
 use elementary::SineCosine;
@@ -64,8 +64,8 @@ fn cell(row: Row, azimuth: Azimuth, delta: f32, t: f32, q: f32, r: f32, s: f32) 
 }
 
 // Types 3 and 4 look straight up, at 1.570796 and azimuth 0: the same for a whole row.
-pub fn straight_up(row: Row) -> f32
-    ensures { λ r. ⌜ r ≡ straightUp row ⌝ }
+pub fn zenith_gain(row: Row) -> f32
+    ensures { λ r. ⌜ r ≡ zenithGain row ⌝ }
 {
     let SineCosine { sine, cosine } = elementary::sin_cos(1.570796);
     let azimuth = reflection::azimuth_of(0.0);
@@ -74,15 +74,15 @@ pub fn straight_up(row: Row) -> f32
 }
 
 // By the fourth power of the elevation's sine, so that straight up reads the same at each azimuth.
-pub fn blend(e: Elevation, up: f32, rain: f32) -> f32
-    ensures { λ r. ⌜ r ≡ blendOf e up rain ⌝ }
+pub fn blend(e: Elevation, zenith: f32, rain: f32) -> f32
+    ensures { λ r. ⌜ r ≡ blendOf e zenith rain ⌝ }
 {
     let gmorph = e.s;
-    up * gmorph + rain * (1.0 - gmorph)
+    zenith * gmorph + rain * (1.0 - gmorph)
 }
 
-pub fn looks_up(kop: i32) -> bool
-    ensures { λ r. ⌜ r ≡ looksUp kop ⌝ }
+pub fn blends_with_zenith(kop: i32) -> bool
+    ensures { λ r. ⌜ r ≡ blendsWithZenith kop ⌝ }
 {
     match kop {
         3 => true,
@@ -91,14 +91,14 @@ pub fn looks_up(kop: i32) -> bool
     }
 }
 
-// `up` is the row's own gain straight up, which types 3 and 4 alone take.
-pub fn cell_gain(row: Row, up: f32, azimuth: Azimuth, delta: f32, e: Elevation) -> f32
-    ensures { λ r. ⌜ r ≡ cellGain row up azimuth delta e ⌝ }
+// `zenith` is the row's own gain there, which types 3 and 4 alone take.
+pub fn cell_gain(row: Row, zenith: f32, azimuth: Azimuth, delta: f32, e: Elevation) -> f32
+    ensures { λ r. ⌜ r ≡ cellGain row zenith azimuth delta e ⌝ }
 {
     let Elevation { t, q, r, s } = e;
     let rain = cell(row, azimuth, delta, t, q, r, s);
-    if looks_up(row.kop) {
-        return blend(e, up, rain);
+    if blends_with_zenith(row.kop) {
+        return blend(e, zenith, rain);
     }
     rain
 }

@@ -2,6 +2,6 @@
 mod cell;
 
 pub use cell::blend;
+pub use cell::blends_with_zenith;
 pub use cell::cell_gain;
-pub use cell::looks_up;
-pub use cell::straight_up;
+pub use cell::zenith_gain;

@@ -1,5 +1,5 @@
 -- The constants of sections 2 to 6 have the bits that their table says: one computed test, and what it says of each. Assumes nothing.
-use mathlib.Core.List.{List, [], _∷_, _++_}
+use mathlib.Core.List.{List, [], _∷_}
 use lib.Dec.{T}
 use lib.Ieee.{fits, toBits, neg, round}
 use lib.Ieee.Fits.{and-l, and-r}

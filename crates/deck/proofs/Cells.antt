@@ -13,8 +13,8 @@ use Rattle.rows.specs.declared.row.RowAnswer.{RowAnswer}
 use Rattle.rows.specs.declared.row.RowAnswer.the-variants as R
 use Rattle.rows.proofs.Height.{row-own}
 use Rattle.integrals.specs.declared.entry.Turns.{Turns}
-use Rattle.cells.specs.Cell.{looksUp}
-use Rattle.gain_core.specs.Core.{upFor, aboveFrom, aboveGround, atGround}
+use Rattle.cells.specs.Cell.{blendsWithZenith}
+use Rattle.gain_core.specs.Core.{zenithGainFor, aboveFrom, aboveGround, atGround}
 use Rattle.gain_core.proofs.Laws.{above, below}
 use Rattle.independence.specs.Antenna.{Answer}
 use Rattle.deck.proofs.Degrees.{elevation-not-at-ground, elevation-ground}
@@ -40,16 +40,16 @@ module _ (c : Card) (m : ℕ) where
         ap (λ (a : Answer). a .refusal) (call-above d h k) ∙ ap (λ (r : RowAnswer). answerOf (aboveFrom (antennaFor c) (elevationAt (suc d)) (columnAt (suc d)) r) .refusal) un
 
     pub ground-unsettled : (h : Float) → (callOf c m 0 h .refusal ≡ 0) ⊎ (callOf c m 0 h .refusal ≡ 11)
-    ground-unsettled h = rw (call-ground h) (by (looksUp (antennaFor c .kop)) refl)
+    ground-unsettled h = rw (call-ground h) (by (blendsWithZenith (antennaFor c .kop)) refl)
       where
-        by : (b : Bool) → looksUp (antennaFor c .kop) ≡ b → (answerOf (atGround (antennaFor c) (whole m) (columnAt 0) h) .refusal ≡ 0) ⊎ (answerOf (atGround (antennaFor c) (whole m) (columnAt 0) h) .refusal ≡ 11)
+        by : (b : Bool) → blendsWithZenith (antennaFor c .kop) ≡ b → (answerOf (atGround (antennaFor c) (whole m) (columnAt 0) h) .refusal ≡ 0) ⊎ (answerOf (atGround (antennaFor c) (whole m) (columnAt 0) h) .refusal ≡ 11)
         by true e = unfold atGround in rw (e, un) (inr refl)
         by false e = unfold atGround in rw e (inl refl)
 
   -- ---- a row that settles
   module _ (row : Row) (turns : Turns) (is : rowOf (antennaFor c) (whole m) ≡ R.Settled row turns) where
     pub above-settled : (d : ℕ) (h : Float) → d < 90
-        → callOf c m (suc d) h ≡ record { refusal = 0; gain = cellAt row (upFor row) (antennaFor c .azimuth) (suc d); efficiency = row .eff; height = row .x }
+        → callOf c m (suc d) h ≡ record { refusal = 0; gain = cellAt row (zenithGainFor row) (antennaFor c .azimuth) (suc d); efficiency = row .eff; height = row .x }
     unfolding aboveGround
     above-settled d h k = call-above d h k ∙ ap (λ (r : RowAnswer). answerOf (aboveFrom (antennaFor c) (elevationAt (suc d)) (columnAt (suc d)) r)) is
 
@@ -59,10 +59,10 @@ module _ (c : Card) (m : ℕ) where
     pub row-height : row .x ≡ heightFor (antennaFor c .kop) (antennaFor c .leg) (waveOf (whole m))
     row-height = own .1
 
-    pub ground-settled : (h : Float) → (callOf c m 0 h .refusal ≡ 0) × (callOf c m 0 h .gain ≡ groundCell (antennaFor c .kop) (upFor row) (columnAt 0) h)
-    ground-settled h = rw (call-ground h) (by (looksUp (antennaFor c .kop)) refl)
+    pub ground-settled : (h : Float) → (callOf c m 0 h .refusal ≡ 0) × (callOf c m 0 h .gain ≡ groundCell (antennaFor c .kop) (zenithGainFor row) (columnAt 0) h)
+    ground-settled h = rw (call-ground h) (by (blendsWithZenith (antennaFor c .kop)) refl)
       where
-        by : (b : Bool) → looksUp (antennaFor c .kop) ≡ b
-            → (answerOf (atGround (antennaFor c) (whole m) (columnAt 0) h) .refusal ≡ 0) × (answerOf (atGround (antennaFor c) (whole m) (columnAt 0) h) .gain ≡ groundCell (antennaFor c .kop) (upFor row) (columnAt 0) h)
-        by true e = unfold atGround upFor groundCell in rw (e, is, ap looksUp (own .0) ∙ e) (refl, refl)
+        by : (b : Bool) → blendsWithZenith (antennaFor c .kop) ≡ b
+            → (answerOf (atGround (antennaFor c) (whole m) (columnAt 0) h) .refusal ≡ 0) × (answerOf (atGround (antennaFor c) (whole m) (columnAt 0) h) .gain ≡ groundCell (antennaFor c .kop) (zenithGainFor row) (columnAt 0) h)
+        by true e = unfold atGround zenithGainFor groundCell in rw (e, is, ap blendsWithZenith (own .0) ∙ e) (refl, refl)
         by false e = unfold atGround groundCell in rw e (refl, refl)

@@ -15,7 +15,7 @@ use Rattle.patterns.specs.declared.antenna.Antenna.{Antenna}
 use Rattle.rows.specs.Row.{rowOf}
 use Rattle.rows.specs.declared.row.Row.{Row}
 use Rattle.rows.specs.declared.row.RowAnswer.the-variants as R
-use Rattle.gain_core.specs.Core.{upFor}
+use Rattle.gain_core.specs.Core.{zenithGainFor}
 use Rattle.table.specs.Table.{gainAt}
 use Rattle.independence.specs.Antenna.{Answer}
 use Rattle.independence.specs.Laws.{Fills}
@@ -38,16 +38,16 @@ row-unsettled a m h t y un f e F =
 
 -- ---- the series settle: t₁ has the ground gain, and the gains above it are stored
 module _ (f : Fields) (m : ℕ) (F : Fills theAntenna f m) (row : Row) (turns : Turns) (is : rowOf (antennaFor (cardOf f)) (whole m) ≡ R.Settled row turns) where
-  gains-stored : (t₁ : List Float) (n : ℕ) → n ≤ 90 → GainsStored theAntenna f m t₁ (storedAbove (cellAt row (upFor row) (antennaFor (cardOf f) .azimuth)) m n t₁) (suc n)
+  gains-stored : (t₁ : List Float) (n : ℕ) → n ≤ 90 → GainsStored theAntenna f m t₁ (storedAbove (cellAt row (zenithGainFor row) (antennaFor (cardOf f) .azimuth)) m n t₁) (suc n)
   unfolding storedAbove
   gains-stored t₁ zero l = row-start theAntenna theLaws f m t₁
   gains-stored t₁ (suc n) l =
       rw add-one at
-      (row-step theAntenna theLaws f m (row .x) t₁ _ (suc n) (gainAt m (suc n)) (cellAt row (upFor row) (antennaFor (cardOf f) .azimuth) (suc n)) F (gains-stored t₁ n (omega arith)) (omega arith) refl
+      (row-step theAntenna theLaws f m (row .x) t₁ _ (suc n) (gainAt m (suc n)) (cellAt row (zenithGainFor row) (antennaFor (cardOf f) .azimuth) (suc n)) F (gains-stored t₁ n (omega arith)) (omega arith) refl
       (sym (ap (λ (a : Answer). a .gain) (above-settled (cardOf f) m row turns is n (row .x) (omega arith)))))
 
-  settled : (h g : Float) (t₀ t : List Float) → g ≡ groundCell (antennaFor (cardOf f) .kop) (upFor row) (columnAt 0) h
-      → t ≡ storedAbove (cellAt row (upFor row) (antennaFor (cardOf f) .azimuth)) m 90 (set t₀ ((m - 1) * 91) g)
+  settled : (h g : Float) (t₀ t : List Float) → g ≡ groundCell (antennaFor (cardOf f) .kop) (zenithGainFor row) (columnAt 0) h
+      → t ≡ storedAbove (cellAt row (zenithGainFor row) (antennaFor (cardOf f) .azimuth)) m 90 (set t₀ ((m - 1) * 91) g)
       → RowDone theAntenna f m h t₀ (set t (2730 + (m - 1)) (row .eff)) 0 (row .x)
   settled h g t₀ t eg et =
       row-ends theAntenna theLaws f m h (row .x) t₀ t ((m - 1) * 91) 91 (2730 + (m - 1)) g (row .eff) (row .x) F
@@ -61,7 +61,7 @@ module _ (f : Fields) (m : ℕ) (F : Fills theAntenna f m) (row : Row) (turns : 
       (row-height (cardOf f) m row turns is ∙ (unfold cardOf antennaFor in left-is f m (F .passes)))
 
 pub row-settled : (a : Antenna) (m : ℕ) (h up g : Float) (kop : ℤ) (e₀ : Elevation) (t₀ t : List Float) (row : Row) (turns : Turns) → rowOf a (whole m) ≡ R.Settled row turns
-    → kop ≡ a .kop → up ≡ upFor row → e₀ ≡ columnAt 0
+    → kop ≡ a .kop → up ≡ zenithGainFor row → e₀ ≡ columnAt 0
     → g ≡ groundCell kop up e₀ h → t ≡ storedAbove (cellAt row up (a .azimuth)) m 90 (set t₀ ((m - 1) * 91) g)
     → RowOfFields a m h t₀ (set t (2730 + (m - 1)) (row .eff)) 0 (row .x)
 row-settled a m h up g kop e₀ t₀ t row turns is ek eu ee eg et f e F =

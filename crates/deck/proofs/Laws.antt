@@ -21,8 +21,8 @@ use Rattle.cells.specs.Cell as Cell
 use Rattle.gain_core.specs.Core.{aboveGround, workOf, workNumber}
 use Rattle.gain_core.specs.declared.core.Worked.{Worked}
 use Rattle.gain_core.specs.declared.core.Worked.the-variants as W
-use Rattle.gain_core.proofs.Laws.{OfCall, AboveFloor, left-above, ground-value, up-ground-same, number-same, floor-above}
-use Rattle.independence.specs.Antenna.{Answer, floorPlus, carriesHeight, looksUp, heightLeft}
+use Rattle.gain_core.proofs.Laws.{OfCall, AboveFloor, left-above, ground-value, zenith-ground-same, number-same, floor-above}
+use Rattle.independence.specs.Antenna.{Answer, floorPlus, carriesHeight, hasSecondCall, heightLeft}
 use Rattle.independence.specs.Laws.{Fills, Laws}
 use Rattle.deck.proofs.Degrees.{mhz-in-range}
 use Rattle.deck.specs.declared.fields.Fields.{Fields}
@@ -59,8 +59,8 @@ module _ (f : Fields) (p : fieldsRefusal f ≡ 0) where
   carries : (isType (f .kop) 2 || isType (f .kop) 5) ≡ carriesHeight (natAbs (f .kop))
   carries = ap₂ _||_ (kind 2) (kind 5)
 
-  looks : Cell.looksUp (f .kop) ≡ looksUp (natAbs (f .kop))
-  unfolding Cell.looksUp
+  looks : Cell.blendsWithZenith (f .kop) ≡ hasSecondCall (natAbs (f .kop))
+  unfolding Cell.blendsWithZenith
   looks = ap₂ _||_ (kind 3) (kind 4)
 
 -- ---- the height that a row leaves
@@ -89,15 +89,15 @@ module _ (f : Fields) (m : ℕ) (p : fieldsRefusal f ≡ 0) where
       ∙ number-same a (whole m) (elevationAt 0) (columnAt 0) h h′
       ∙ sym (number-is (workOf a (whole m) (elevationAt 0) (columnAt 0) h′))
 
-  ground-same : (h h′ : Float) → T (looksUp (natAbs (f .kop))) → callOf (cardOf f) m 0 h .gain ≡ callOf (cardOf f) m 0 h′ .gain
+  ground-same : (h h′ : Float) → T (hasSecondCall (natAbs (f .kop))) → callOf (cardOf f) m 0 h .gain ≡ callOf (cardOf f) m 0 h′ .gain
   unfolding cardOf antennaFor
   ground-same h h′ t =
       let up = looks f p ∙ is-true _ t in
       ap (λ (a : Answer). a .gain)
-      (call-ground (cardOf f) m h ∙ ap answerOf (up-ground-same (antennaFor (cardOf f)) (whole m) (columnAt 0) h h′ up) ∙ sym (call-ground (cardOf f) m h′))
+      (call-ground (cardOf f) m h ∙ ap answerOf (zenith-ground-same (antennaFor (cardOf f)) (whole m) (columnAt 0) h h′ up) ∙ sym (call-ground (cardOf f) m h′))
 
   -- the gain is -30 plus the call's own efficiency, which is the type's
-  ground-is : (h : Float) → T (not (looksUp (natAbs (f .kop))))
+  ground-is : (h : Float) → T (not (hasSecondCall (natAbs (f .kop))))
       → callOf (cardOf f) m 0 h
       ≡ record {
         refusal = 0;
@@ -109,7 +109,7 @@ module _ (f : Fields) (m : ℕ) (p : fieldsRefusal f ≡ 0) where
   ground-is h n =
       call-ground (cardOf f) m h ∙ ap answerOf (ground-value (antennaFor (cardOf f)) (whole m) (columnAt 0) h (looks f p ∙ is-false _ n))
 
-  ground-gain : (h : Float) → T (not (looksUp (natAbs (f .kop)))) → callOf (cardOf f) m 0 h .gain ≡ floorPlus (efficiencyOf (pos (natAbs (f .kop))) h (num 0 1))
+  ground-gain : (h : Float) → T (not (hasSecondCall (natAbs (f .kop)))) → callOf (cardOf f) m 0 h .gain ≡ floorPlus (efficiencyOf (pos (natAbs (f .kop))) h (num 0 1))
   unfolding floorPlus
   ground-gain h n = ap (λ (a : Answer). a .gain) (ground-is h n) ∙ ap (λ (k : ℤ). floor ⊞ efficiencyOf k h (num 0 1)) (is-type f p)
 
@@ -118,13 +118,13 @@ or-false : (a b : Bool) → T (not (a || b)) → (a ≡ false) × T (not b)
 or-false true b t = absurd t
 or-false false b t = (refl, t)
 
-floor-holds : (f : Fields) (m d : ℕ) (h : Float) → fieldsRefusal f ≡ 0 → d < 91 → T (not (eqb (natAbs (f .kop)) 2 || looksUp (natAbs (f .kop)))) → callOf (cardOf f) m d h .refusal ≡ 0
+floor-holds : (f : Fields) (m d : ℕ) (h : Float) → fieldsRefusal f ≡ 0 → d < 91 → T (not (eqb (natAbs (f .kop)) 2 || hasSecondCall (natAbs (f .kop)))) → callOf (cardOf f) m d h .refusal ≡ 0
     → AboveFloor (callOf (cardOf f) m d h .gain) (callOf (cardOf f) m d h .efficiency)
 floor-holds f m zero h p l t e =
-    let n = or-false (eqb (natAbs (f .kop)) 2) (looksUp (natAbs (f .kop))) t .1 in
+    let n = or-false (eqb (natAbs (f .kop)) 2) (hasSecondCall (natAbs (f .kop))) t .1 in
     rw (ground-is f m p h n) (inr (inr refl))
 floor-holds f m (suc d) h p l t e =
-    let o = or-false (eqb (natAbs (f .kop)) 2) (looksUp (natAbs (f .kop))) t in
+    let o = or-false (eqb (natAbs (f .kop)) 2) (hasSecondCall (natAbs (f .kop))) t in
     let at = call-above (cardOf f) m d h (omega arith) in
     let own = floor-above (antennaFor (cardOf f)) (whole m) (elevationAt (suc d)) (columnAt (suc d)) (unfold cardOf antennaFor in kind f p 2 ∙ o .0) (unfold cardOf antennaFor in looks f p ∙ is-false _ (o .1)) in
     subst (λ (a : Answer). AboveFloor (a .gain) (a .efficiency)) (sym at) (answer-floor (aboveGround (antennaFor (cardOf f)) (whole m) (elevationAt (suc d)) (columnAt (suc d))) own (ap (λ (a : Answer). a .refusal) (sym at) ∙ e))
@@ -164,6 +164,6 @@ theLaws =
     eight : (h : Float) → efficiencyOf (pos 8) h (num 0 1) ≡ num 0 1
     eight h = unfold efficiencyOf isType in refl
 
-    floored : (f : Fields) (m d : ℕ) (h : Float) → Fills theAntenna f m → d < 91 → T (not (eqb (natAbs (f .kop)) 2 || looksUp (natAbs (f .kop)))) → callOf (cardOf f) m d h .refusal ≡ 0
+    floored : (f : Fields) (m d : ℕ) (h : Float) → Fills theAntenna f m → d < 91 → T (not (eqb (natAbs (f .kop)) 2 || hasSecondCall (natAbs (f .kop)))) → callOf (cardOf f) m d h .refusal ≡ 0
         → (callOf (cardOf f) m d h .gain ≡ nan) ⊎ (T (lt floor (callOf (cardOf f) m d h .gain)) ⊎ (callOf (cardOf f) m d h .gain ≡ floorPlus (callOf (cardOf f) m d h .efficiency)))
     floored f m d h F l t e = unfold floorPlus in floor-holds f m d h (F .passes) l t e

@@ -11,7 +11,7 @@ use Rattle.reflection.specs.declared.angles.Elevation.{Elevation}
 use Rattle.finish.specs.Finish.{groundOf}
 use Rattle.patterns.specs.declared.antenna.Antenna.{Antenna}
 use Rattle.rows.specs.declared.row.Row.{Row}
-use Rattle.cells.specs.Cell.{blendOf, looksUp, cellGain}
+use Rattle.cells.specs.Cell.{blendOf, blendsWithZenith, cellGain}
 use Rattle.table.specs.Table.{gainAt}
 use Rattle.independence.specs.Laws.{Fills}
 use Rattle.independence.specs.Contracts.{RowDone}
@@ -20,13 +20,13 @@ use Rattle.deck.specs.Columns.{elevationAt, columnAt}
 use Rattle.deck.specs.Card.{cardOf, antennaFor}
 use Rattle.deck.specs.Antenna.{theAntenna}
 
--- the ground gain, given the row's gain straight up
+-- the ground gain, given the row's gain at the zenith
 unfoldable pub groundCell : ℤ → Float → Elevation → Float → Float
-groundCell kop up e height = cond (looksUp kop) (blendOf e up (groundOf kop height .gain)) (groundOf kop height .gain)
+groundCell kop zenith e height = cond (blendsWithZenith kop) (blendOf e zenith (groundOf kop height .gain)) (groundOf kop height .gain)
 
 -- the gain at d degrees, from 1
 abbrev pub cellAt : Row → Float → Azimuth → ℕ → Float
-cellAt row up azimuth d = cellGain row up azimuth (elevationAt d) (columnAt d)
+cellAt row zenith azimuth d = cellGain row zenith azimuth (elevationAt d) (columnAt d)
 
 -- a table after the first n gains above the ground of the row at m MHz
 unfoldable pub storedAbove : (ℕ → Float) → ℕ → ℕ → List Float → List Float

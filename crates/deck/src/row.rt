@@ -18,20 +18,20 @@ pub(crate) struct Filled {
     pub height: f32,
 }
 
-// `up` is the row's own gain straight up, which types 3 and 4 alone take.
-fn ground_cell(kop: i32, up: f32, e: Elevation, height: f32) -> f32
-    ensures { λ r. ⌜ r ≡ groundCell kop up e height ⌝ }
+// `zenith` is the row's own gain there, which types 3 and 4 alone take.
+fn ground_cell(kop: i32, zenith: f32, e: Elevation, height: f32) -> f32
+    ensures { λ r. ⌜ r ≡ groundCell kop zenith e height ⌝ }
 {
     let low = finish::ground_gain(kop, height);
-    if cells::looks_up(kop) {
-        return cells::blend(e, up, low.gain);
+    if cells::blends_with_zenith(kop) {
+        return cells::blend(e, zenith, low.gain);
     }
     low.gain
 }
 
 fn fill_above(
     row: Row,
-    up: f32,
+    zenith: f32,
     azimuth: Azimuth,
     m: usize,
     deltas: &[f32],
@@ -40,14 +40,14 @@ fn fill_above(
     table: &mut [f32],
 )
     requires { ⌜ (length (now table) ≡ 2760) × (1 ≤ m) × (m ≤ 30) × ColumnsAre (now deltas) (now cosines) (now sines) 91 ⌝ }
-    ensures { λ _. ⌜ (now (table .exit) ≡ storedAbove (cellAt row up azimuth) m 90 (now (table .entry)))
+    ensures { λ _. ⌜ (now (table .exit) ≡ storedAbove (cellAt row zenith azimuth) m 90 (now (table .entry)))
         × (length (now (table .exit)) ≡ length (now (table .entry))) ⌝ }
 {
     let base = (m - 1) * COLUMNS;
     let mut d: usize = 1;
     while d < COLUMNS {
         let e = reflection::elevation_of(cosines[d], sines[d]);
-        table[base + d] = cells::cell_gain(row, up, azimuth, deltas[d], e);
+        table[base + d] = cells::cell_gain(row, zenith, azimuth, deltas[d], e);
         d += 1;
     }
 }
@@ -72,10 +72,19 @@ pub(crate) fn fill_row(
             height,
         };
     };
-    let up = gain_core::up_for(row);
+    let zenith = gain_core::zenith_gain_for(row);
     let e = reflection::elevation_of(cosines[0], sines[0]);
-    table[(m - 1) * COLUMNS] = ground_cell(antenna.kop, up, e, height);
-    fill_above(row, up, antenna.azimuth, m, deltas, cosines, sines, table);
+    table[(m - 1) * COLUMNS] = ground_cell(antenna.kop, zenith, e, height);
+    fill_above(
+        row,
+        zenith,
+        antenna.azimuth,
+        m,
+        deltas,
+        cosines,
+        sines,
+        table,
+    );
     table[GAINS + (m - 1)] = row.eff;
     Filled {
         refusal: 0,

@@ -20,7 +20,7 @@ use Rattle.rows.specs.declared.row.Row.{Row}
 use Rattle.rows.specs.declared.row.RowAnswer.{RowAnswer}
 use Rattle.rows.specs.declared.row.RowAnswer.the-variants as R
 use Rattle.rows.proofs.Height.{OfRow, row-own}
-use Rattle.cells.specs.Cell.{looksUp, cellBy, cellOf, cellGain, powerCell, curtainCell}
+use Rattle.cells.specs.Cell.{blendsWithZenith, cellBy, cellOf, cellGain, powerCell, curtainCell}
 use Rattle.gain_core.specs.Core.{aboveFrom, aboveGround, groundFrom, atGround, workOf, workNumber}
 use Rattle.gain_core.specs.declared.core.Call.{Call}
 use Rattle.gain_core.proofs.Unsettled.{work-number}
@@ -55,7 +55,7 @@ left-above antenna fmc delta e = go (rowOf antenna fmc) (row-own antenna fmc)
     go R.Unsettled own = tt
 
 -- ---- the ground outside types 3 and 4: -30 plus the type's efficiency at the carried height, which stays
-pub ground-value : (antenna : Antenna) (fmc : Float) (e : Elevation) (height : Float) → looksUp (antenna .kop) ≡ false
+pub ground-value : (antenna : Antenna) (fmc : Float) (e : Elevation) (height : Float) → blendsWithZenith (antenna .kop) ≡ false
     → atGround antenna fmc e height
     ≡ Settled
     (record {
@@ -68,8 +68,8 @@ unfolding atGround groundOf
 ground-value antenna fmc e height u = rw (u, ground-gain (antenna .kop) height) refl
 
 -- ---- types 3 and 4 are not 2 or 5: at the ground they depend on no height, and leave 1
-other-types : (kop : ℤ) → looksUp kop ≡ true → (isType kop 2 || isType kop 5) ≡ false
-unfolding looksUp isType
+other-types : (kop : ℤ) → blendsWithZenith kop ≡ true → (isType kop 2 || isType kop 5) ≡ false
+unfolding blendsWithZenith isType
 other-types (pos k) t = go (eqb k 3) (eqb k 4) (eqb→eq k 3) (eqb→eq k 4) t
   where
     go : (a b : Bool) → (T a → k ≡ 3) → (T b → k ≡ 4) → (a || b) ≡ true → (eqb k 2 || eqb k 5) ≡ false
@@ -78,23 +78,23 @@ other-types (pos k) t = go (eqb k 3) (eqb k 4) (eqb→eq k 3) (eqb→eq k 4) t
     go false false is3 is4 t = absurd (subst T (sym t) tt)
 other-types (negsuc k) t = refl
 
-pub up-left : (antenna : Antenna) (fmc : Float) → looksUp (antenna .kop) ≡ true → heightFor (antenna .kop) (antenna .leg) (waveOf fmc) ≡ num 1 1
+pub zenith-left : (antenna : Antenna) (fmc : Float) → blendsWithZenith (antenna .kop) ≡ true → heightFor (antenna .kop) (antenna .leg) (waveOf fmc) ≡ num 1 1
 unfolding heightFor
-up-left antenna fmc u = rw (other-types (antenna .kop) u) refl
+zenith-left antenna fmc u = rw (other-types (antenna .kop) u) refl
 
-pub up-ground-left : (antenna : Antenna) (fmc : Float) (e : Elevation) (height : Float) → looksUp (antenna .kop) ≡ true
+pub zenith-ground-left : (antenna : Antenna) (fmc : Float) (e : Elevation) (height : Float) → blendsWithZenith (antenna .kop) ≡ true
     → OfCall (λ call. call .height ≡ num 1 1) (atGround antenna fmc e height)
 unfolding atGround
-up-ground-left antenna fmc e height u = rw u (go (rowOf antenna fmc) (row-own antenna fmc))
+zenith-ground-left antenna fmc e height u = rw u (go (rowOf antenna fmc) (row-own antenna fmc))
   where
     go : (r : RowAnswer) → OfRow (λ row. (row .kop ≡ antenna .kop) × (row .x ≡ heightFor (antenna .kop) (antenna .leg) (waveOf fmc))) r
         → OfCall (λ call. call .height ≡ num 1 1) (groundFrom antenna e height r)
-    go (R.Settled row turns) own = own .1 ∙ up-left antenna fmc u
+    go (R.Settled row turns) own = own .1 ∙ zenith-left antenna fmc u
     go R.Unsettled own = tt
 
-pub up-ground-same : (antenna : Antenna) (fmc : Float) (e : Elevation) (h h′ : Float) → looksUp (antenna .kop) ≡ true → atGround antenna fmc e h ≡ atGround antenna fmc e h′
+pub zenith-ground-same : (antenna : Antenna) (fmc : Float) (e : Elevation) (h h′ : Float) → blendsWithZenith (antenna .kop) ≡ true → atGround antenna fmc e h ≡ atGround antenna fmc e h′
 unfolding atGround
-up-ground-same antenna fmc e h h′ u = rw u (go (rowOf antenna fmc))
+zenith-ground-same antenna fmc e h h′ u = rw u (go (rowOf antenna fmc))
   where
     go : (r : RowAnswer) → groundFrom antenna e h r ≡ groundFrom antenna e h′ r
     go (R.Settled row turns) = rw (ground-same (antenna .kop) h h′ (other-types (antenna .kop) u)) refl
@@ -121,7 +121,7 @@ cell-floor (P.Vertical monopole) row azimuth delta e t = floor-rule (row .kop) _
 cell-floor (P.Inverted l) row azimuth delta e t = floor-rule (row .kop) _ (row .eff) (row .sok) t
 cell-floor P.Other row azimuth delta e t = floor-rule (row .kop) _ (row .eff) (row .sok) t
 
-pub floor-above : (antenna : Antenna) (fmc delta : Float) (e : Elevation) → isType (antenna .kop) 2 ≡ false → looksUp (antenna .kop) ≡ false
+pub floor-above : (antenna : Antenna) (fmc delta : Float) (e : Elevation) → isType (antenna .kop) 2 ≡ false → blendsWithZenith (antenna .kop) ≡ false
     → OfCall (λ call. AboveFloor (call .gain) (call .efficiency)) (aboveGround antenna fmc delta e)
 unfolding aboveGround cellGain cellOf
 floor-above antenna fmc delta e t u = go (rowOf antenna fmc) (row-own antenna fmc)
@@ -129,5 +129,5 @@ floor-above antenna fmc delta e t u = go (rowOf antenna fmc) (row-own antenna fm
     go : (r : RowAnswer) → OfRow (λ row. (row .kop ≡ antenna .kop) × (row .x ≡ heightFor (antenna .kop) (antenna .leg) (waveOf fmc))) r
         → OfCall (λ call. AboveFloor (call .gain) (call .efficiency)) (aboveFrom antenna delta e r)
     go (R.Settled row turns) own =
-        rw (ap looksUp (own .0) ∙ u) (cell-floor (row .pattern) row (antenna .azimuth) delta e (ap (λ (k : ℤ). isType k 2) (own .0) ∙ t))
+        rw (ap blendsWithZenith (own .0) ∙ u) (cell-floor (row .pattern) row (antenna .azimuth) delta e (ap (λ (k : ℤ). isType k 2) (own .0) ∙ t))
     go R.Unsettled own = tt

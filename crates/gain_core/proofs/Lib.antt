@@ -1,3 +1,3 @@
 pub mod Unsettled
 pub mod Laws
-pub mod GroundUp
+pub mod GroundZenith

@@ -12,11 +12,11 @@ use Rattle.reflection.specs.Angles.{waveOf}
 use Rattle.reflection.specs.declared.angles.Elevation.{Elevation}
 use Rattle.patterns.specs.Pattern.{patternSettles}
 use Rattle.patterns.specs.declared.antenna.Antenna.{Antenna}
-use Rattle.rows.specs.Row.{rowOf, rowNumber}
+use Rattle.rows.specs.Row.{rowNumber}
 use Rattle.rows.specs.declared.row.RowAnswer.{RowAnswer}
 use Rattle.rows.specs.declared.row.RowAnswer.the-variants as R
 use Rattle.rows.proofs.Unsettled.{row-number}
-use Rattle.cells.specs.Cell.{looksUp}
+use Rattle.cells.specs.Cell.{blendsWithZenith}
 use Rattle.gain_core.specs.Core.{aboveFrom, aboveGround, groundFrom, atGround, workOf}
 use Rattle.gain_core.specs.Core.{groundSettles, workSettles, workNumber, workValues, zeroValues}
 use Rattle.gain_core.specs.declared.core.Worked.{Worked}
@@ -47,9 +47,9 @@ module _ (antenna : Antenna) (fmc : Float) (e : Elevation) where
 
   pub ground-number : (height : Float) → workNumber (atGround antenna fmc e height) ≡ settledNumber (groundSettles antenna fmc)
   unfolding atGround groundSettles
-  ground-number height = go (looksUp (antenna .kop)) refl
+  ground-number height = go (blendsWithZenith (antenna .kop)) refl
     where
-      go : (b : Bool) → looksUp (antenna .kop) ≡ b → workNumber (atGround antenna fmc e height) ≡ settledNumber (groundSettles antenna fmc)
+      go : (b : Bool) → blendsWithZenith (antenna .kop) ≡ b → workNumber (atGround antenna fmc e height) ≡ settledNumber (groundSettles antenna fmc)
       go true u = rw u (of-row-ground antenna e height _ ∙ row-number antenna fmc)
       go false u = rw u refl
 

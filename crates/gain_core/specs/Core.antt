@@ -7,7 +7,7 @@ use Rattle.reflection.specs.Angles.{waveOf}
 use Rattle.reflection.specs.declared.angles.Elevation.{Elevation}
 use Rattle.finish.specs.Finish.{groundOf}
 use Rattle.rows.specs.Row.{rowOf}
-use Rattle.cells.specs.Cell.{straightUp, blendOf, looksUp, cellGain}
+use Rattle.cells.specs.Cell.{zenithGain, blendOf, blendsWithZenith, cellGain}
 use Rattle.patterns.specs.Pattern.{patternSettles}
 use Rattle.patterns.specs.declared.antenna.Antenna.{Antenna}
 use Rattle.rows.specs.declared.row.Row.{Row}
@@ -17,12 +17,12 @@ use Rattle.gain_core.specs.declared.core.Worked.{Worked}
 use Rattle.gain_core.specs.declared.core.Worked.the-variants.{Settled, Unsettled}
 
 -- what a row's cells blend with: types 3 and 4 alone take it
-unfoldable pub upFor : Row → Float
-upFor row = cond (looksUp (row .kop)) (straightUp row) (num 0 1)
+unfoldable pub zenithGainFor : Row → Float
+zenithGainFor row = cond (blendsWithZenith (row .kop)) (zenithGain row) (num 0 1)
 
 abbrev pub aboveFrom : Antenna → Float → Elevation → RowAnswer → Worked
 aboveFrom antenna delta e (R.Settled row turns) =
-    Settled (record { gain = cellGain row (upFor row) (antenna .azimuth) delta e; efficiency = row .eff; height = row .x; turns = turns })
+    Settled (record { gain = cellGain row (zenithGainFor row) (antenna .azimuth) delta e; efficiency = row .eff; height = row .x; turns = turns })
 aboveFrom antenna delta e R.Unsettled = Unsettled
 
 -- elevation above 0
@@ -33,14 +33,14 @@ aboveGround antenna fmc delta e = aboveFrom antenna delta e (rowOf antenna fmc)
 abbrev pub groundFrom : Antenna → Elevation → Float → RowAnswer → Worked
 groundFrom antenna e height (R.Settled row turns) =
     let low = groundOf (antenna .kop) height in
-    Settled (record { gain = blendOf e (straightUp row) (low .gain); efficiency = low .efficiency; height = row .x; turns = turns })
+    Settled (record { gain = blendOf e (zenithGain row) (low .gain); efficiency = low .efficiency; height = row .x; turns = turns })
 groundFrom antenna e height R.Unsettled = Unsettled
 
 -- elevation 0 or below: the height is the carried one, and stays but for types 3 and 4
 unfoldable pub atGround : Antenna → Float → Elevation → Float → Worked
 atGround antenna fmc e height =
     let low = groundOf (antenna .kop) height in
-    cond (looksUp (antenna .kop)) (groundFrom antenna e height (rowOf antenna fmc))
+    cond (blendsWithZenith (antenna .kop)) (groundFrom antenna e height (rowOf antenna fmc))
     (Settled (record { gain = low .gain; efficiency = low .efficiency; height = height; turns = record { ci = 0; si = 0 } }))
 
 unfoldable pub workOf : Antenna → Float → Float → Elevation → Float → Worked
@@ -49,12 +49,12 @@ workOf antenna fmc delta e height =
 
 -- at the ground types 3 and 4 alone take the row
 unfoldable pub groundSettles : Antenna → Float → Bool
-groundSettles antenna fmc = cond (looksUp (antenna .kop)) (patternSettles antenna (waveOf fmc)) true
+groundSettles antenna fmc = cond (blendsWithZenith (antenna .kop)) (patternSettles antenna (waveOf fmc)) true
 
 unfoldable pub workSettles : Antenna → Float → Float → Bool
 workSettles antenna fmc delta = cond (le delta (num 0 1)) (groundSettles antenna fmc) (patternSettles antenna (waveOf fmc))
 
--- document 01's number, gain, efficiency and height left of the work: zeros and the height met where it is refused
+-- document 01's number, gain, efficiency and height left of the work: where it is refused, zeros, and the height stays
 abbrev pub workNumber : Worked → ℕ
 workNumber (Settled call) = 0
 workNumber Unsettled = 11

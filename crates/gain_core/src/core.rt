@@ -3,12 +3,12 @@ ghost use mathlib.Core.Path.{_≡_};
 ghost use Rattle.single.specs.Answer.{IsAnswer};
 ghost use Rattle.reflection.specs.Angles.{waveOf};
 ghost use Rattle.patterns.specs.Pattern.{patternSettles};
-ghost use Rattle.gain_core.specs.Core.{upFor, aboveGround, atGround, workOf};
+ghost use Rattle.gain_core.specs.Core.{zenithGainFor, aboveGround, atGround, workOf};
 ghost use Rattle.gain_core.specs.Core.{groundSettles, workSettles, workNumber, workValues, zeroValues};
 use cells::blend;
+use cells::blends_with_zenith;
 use cells::cell_gain;
-use cells::looks_up;
-use cells::straight_up;
+use cells::zenith_gain;
 use integrals::Turns;
 use patterns::Antenna;
 use reflection::Elevation;
@@ -29,11 +29,11 @@ pub enum Worked {
 }
 
 // What a row's cells blend with; 0 where the type takes none.
-pub fn up_for(row: Row) -> f32
-    ensures { λ r. ⌜ r ≡ upFor row ⌝ }
+pub fn zenith_gain_for(row: Row) -> f32
+    ensures { λ r. ⌜ r ≡ zenithGainFor row ⌝ }
 {
-    if looks_up(row.kop) {
-        return straight_up(row);
+    if blends_with_zenith(row.kop) {
+        return zenith_gain(row);
     }
     0.0
 }
@@ -44,7 +44,7 @@ pub fn above_ground(antenna: Antenna, fmc: f32, delta: f32, e: Elevation) -> Wor
     let RowAnswer::Settled(row, turns) = rows::row_of(antenna, fmc) else {
         return Worked::Unsettled;
     };
-    let gain = cell_gain(row, up_for(row), antenna.azimuth, delta, e);
+    let gain = cell_gain(row, zenith_gain_for(row), antenna.azimuth, delta, e);
     Worked::Settled(Call {
         gain,
         efficiency: row.eff,
@@ -59,12 +59,12 @@ pub fn at_ground(antenna: Antenna, fmc: f32, e: Elevation, height: f32) -> Worke
 {
     let kop = antenna.kop;
     let low = finish::ground_gain(kop, height);
-    if looks_up(kop) {
+    if blends_with_zenith(kop) {
         let RowAnswer::Settled(row, turns) = rows::row_of(antenna, fmc) else {
             return Worked::Unsettled;
         };
         return Worked::Settled(Call {
-            gain: blend(e, straight_up(row), low.gain),
+            gain: blend(e, zenith_gain(row), low.gain),
             efficiency: low.efficiency,
             height: row.x,
             turns,

@@ -5,5 +5,5 @@ pub use core::Call;
 pub use core::Worked;
 pub use core::above_ground;
 pub use core::at_ground;
-pub use core::up_for;
 pub use core::work;
+pub use core::zenith_gain_for;

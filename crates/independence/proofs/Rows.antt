@@ -12,7 +12,7 @@ use lib.Dec.{T}
 use lib.Ieee.{Float}
 use Rattle.single.specs.Single.{num}
 use Rattle.table.specs.Table.{gainAt, efficiencyAt, cleared}
-use Rattle.independence.specs.Antenna.{Antenna, Answer, floorPlus, carriesHeight, looksUp, heightLeft}
+use Rattle.independence.specs.Antenna.{Antenna, Answer, floorPlus, carriesHeight, hasSecondCall, heightLeft}
 use Rattle.independence.specs.Laws.{Fills, Laws}
 use Rattle.independence.specs.Filling.{firstOf, heightAt, callAt, cellsRefusal, gainsIn, rowIn, heightAfter, rowsRefusal, rowsIn}
 use Rattle.independence.specs.Demand3.{cell, carriedAfterRows}
@@ -246,7 +246,7 @@ module _ (A : Antenna) (L : Laws A) where
 
   -- ---- types other than 2 and 5: the ground gain is the same from every height, so the whole table is
   ground-same : (c : A .Card) (m : ℕ) (h h′ : Float) → Fills A c m → A .call c m 0 h .refusal ≡ 0 → T (not (carriesHeight (A .typeOf c))) → A .call c m 0 h .gain ≡ A .call c m 0 h′ .gain
-  ground-same c m h h′ F e other = go (looksUp (A .typeOf c)) (L .groundSame c m h h′ F) (L .groundGain c m h F) (L .groundGain c m h′ F)
+  ground-same c m h h′ F e other = go (hasSecondCall (A .typeOf c)) (L .groundSame c m h h′ F) (L .groundGain c m h F) (L .groundGain c m h′ F)
     where
       go : (b : Bool) → (T b → A .call c m 0 h .gain ≡ A .call c m 0 h′ .gain)
           → (T (not b) → A .call c m 0 h .refusal ≡ 0 → A .call c m 0 h .gain ≡ floorPlus (A .efficiencyOf (A .typeOf c) h))

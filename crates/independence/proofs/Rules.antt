@@ -11,7 +11,7 @@ use lib.Ieee.Scale.{finite}
 use Rattle.single.specs.Single.{num}
 use Rattle.finish.specs.Finish.{floor}
 use Rattle.table.specs.Table.{gainAt, efficiencyAt, cleared}
-use Rattle.independence.specs.Antenna.{Antenna, floorPlus, looksUp}
+use Rattle.independence.specs.Antenna.{Antenna, floorPlus, hasSecondCall}
 use Rattle.independence.specs.Laws.{Fills, Laws}
 use Rattle.independence.specs.Filling.{callAt, heightAt, rowsOf, cardTable}
 use Rattle.independence.specs.Deck.{Deck, card, Entry, Outcome, verdictOn, tableBy, outcomeOn, deckAfter, run}
@@ -71,7 +71,7 @@ module _ (A : Antenna) (L : Laws A) (limit : ℕ) where
       subst (λ (x : ℕ). cell (cardTable A c h) (efficiencyAt x) ≡ callAt A c x (carriedAfterRows A c h i) 90 .efficiency) at
       (rows-efficiency A L c h n i cleared (r .0) (omega (arith, r)) cleared-length below ∙ ap (λ (x : Float). callAt A c (A .first c + i) x 90 .efficiency) same)
 
-  ground-rule : (c : A .Card) (h : Float) → Passes A c h → T (not (looksUp (A .typeOf c))) → (m : ℕ) → A .first c ≤ m → m ≤ A .last c
+  ground-rule : (c : A .Card) (h : Float) → Passes A c h → T (not (hasSecondCall (A .typeOf c))) → (m : ℕ) → A .first c ≤ m → m ≤ A .last c
       → cell (cardTable A c h) (gainAt m 0) ≡ floorPlus (A .efficiencyOf (A .typeOf c) (carriedAtRow A c h m))
   unfolding heightAt
   ground-rule c h p type m lo hi =
@@ -90,7 +90,7 @@ module _ (A : Antenna) (L : Laws A) (limit : ℕ) where
       (subst (λ (g : Float). T (lt floor g))
       (sym (rows-other A L c h (rowsOf A c) m d cleared (L .range c (p .input) .0) l top k o ∙ cleared-cell m d top k)) zero-above)
 
-  filled : (c : A .Card) (h : Float) (m d : ℕ) → Passes A c h → T (not (eqb (A .typeOf c) 2 || looksUp (A .typeOf c))) → A .first c ≤ m → m ≤ A .last c → d < 91
+  filled : (c : A .Card) (h : Float) (m d : ℕ) → Passes A c h → T (not (eqb (A .typeOf c) 2 || hasSecondCall (A .typeOf c))) → A .first c ≤ m → m ≤ A .last c → d < 91
       → cell (cardTable A c h) (gainAt m d) ≢ nan → Floored c h m d
   filled c h m d p type lo hi k number =
       let g = filled-cell c h m d p lo hi k in
@@ -101,7 +101,7 @@ module _ (A : Antenna) (L : Laws A) (limit : ℕ) where
         | inr (inr q) ↦ inr (lo, hi, g .0 ∙ q)
       ]
 
-  floor-rule : (c : A .Card) (h : Float) → Passes A c h → T (not (eqb (A .typeOf c) 2 || looksUp (A .typeOf c))) → (m d : ℕ) → 1 ≤ m → m ≤ 30 → d < 91
+  floor-rule : (c : A .Card) (h : Float) → Passes A c h → T (not (eqb (A .typeOf c) 2 || hasSecondCall (A .typeOf c))) → (m d : ℕ) → 1 ≤ m → m ≤ 30 → d < 91
       → cell (cardTable A c h) (gainAt m d) ≢ nan → Floored c h m d
   floor-rule c h p type m d l top k number = go (lower-or-not m (A .first c)) (lower-or-not (A .last c) m)
     where
@@ -110,8 +110,8 @@ module _ (A : Antenna) (L : Laws A) (limit : ℕ) where
       go (inr lo) (inl above) = unfilled c h m d p l top k (inr (omega (arith, L .range c (p .input))))
       go (inr lo) (inr hi) = filled c h m d p type lo hi k number
 
-  type8 : (kop : ℕ) (x : Float) → kop ≡ 8 → T (not (looksUp kop)) × (A .efficiencyOf kop x ≡ num 0 1)
-  type8 kop x e = subst (λ (n : ℕ). T (not (looksUp n)) × (A .efficiencyOf n x ≡ num 0 1)) (sym e) (tt, L .efficiencyOf8 x)
+  type8 : (kop : ℕ) (x : Float) → kop ≡ 8 → T (not (hasSecondCall kop)) × (A .efficiencyOf kop x ≡ num 0 1)
+  type8 kop x e = subst (λ (n : ℕ). T (not (hasSecondCall n)) × (A .efficiencyOf n x ≡ num 0 1)) (sym e) (tt, L .efficiencyOf8 x)
 
   table-rules : (c : A .Card) (h : Float) → Passes A c h → CardRules A c h (cardTable A c h)
   table-rules c h p =

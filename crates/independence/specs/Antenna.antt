@@ -38,8 +38,8 @@ floorPlus efficiency = floor ⊞ efficiency
 abbrev pub carriesHeight : ℕ → Bool
 carriesHeight kop = eqb kop 2 || eqb kop 5
 
-abbrev pub looksUp : ℕ → Bool
-looksUp kop = eqb kop 3 || eqb kop 4
+abbrev pub hasSecondCall : ℕ → Bool
+hasSecondCall kop = eqb kop 3 || eqb kop 4
 
 -- section 5: what the cells above the ground set the carried height to
 unfoldable pub heightLeft : (A : Antenna) → A .Card → ℕ → Float

@@ -11,7 +11,7 @@ use lib.Ieee.{Float, nan, lt}
 use Rattle.single.specs.Single.{num}
 use Rattle.finish.specs.Finish.{floor}
 use Rattle.table.specs.Table.{rowCount, columnCount, gainAt}
-use Rattle.independence.specs.Antenna.{Antenna, floorPlus, carriesHeight, looksUp, heightLeft}
+use Rattle.independence.specs.Antenna.{Antenna, floorPlus, carriesHeight, hasSecondCall, heightLeft}
 use Rattle.independence.specs.Filling.{callAt, rowsOf}
 use Rattle.independence.specs.Deck.{Line, card, malformed, Entry, Outcome, without}
 
@@ -80,11 +80,11 @@ module _ (A : Antenna) where
   pub record CardRules (c : A .Card) (h : Float) (t : List Float) : Type 0 where
     -- "each ground gain in a filled row outside types 3 and 4 is the single-precision sum of -30 and its type's efficiency (type 8's is zero there).
     -- For types 2 and 5 that is taken at the height left by the last cell of an accepted card before it"
-    pub ground : T (not (looksUp (A .typeOf c))) → (m : ℕ) → A .first c ≤ m → m ≤ A .last c
+    pub ground : T (not (hasSecondCall (A .typeOf c))) → (m : ℕ) → A .first c ≤ m → m ≤ A .last c
         → cell t (groundAt m) ≡ floorPlus (A .efficiencyOf (A .typeOf c) (carriedAtRow c h m))
     pub groundOf8 : A .typeOf c ≡ 8 → (m : ℕ) → A .first c ≤ m → m ≤ A .last c → cell t (groundAt m) ≡ floorPlus (num 0 1)
     -- "outside types 2, 3 and 4, every gain of an accepted card, where it is a number, is above -30 or equals -30 plus that cell's efficiency"
-    pub everyGain : T (not (eqb (A .typeOf c) 2 || looksUp (A .typeOf c))) → (m d : ℕ) → 1 ≤ m → m ≤ rowCount → d < columnCount → cell t (gainAt m d) ≢ nan
+    pub everyGain : T (not (eqb (A .typeOf c) 2 || hasSecondCall (A .typeOf c))) → (m d : ℕ) → 1 ≤ m → m ≤ rowCount → d < columnCount → cell t (gainAt m d) ≢ nan
         → T (lt floor (cell t (gainAt m d)))
         ⊎ ((A .first c ≤ m) × (m ≤ A .last c) × (cell t (gainAt m d) ≡ floorPlus (callAt A c m (carriedAtRow c h m) d .efficiency)))
 

@@ -9,7 +9,7 @@ use lib.Ieee.Scale.{finite}
 use Rattle.single.specs.Single.{num}
 use Rattle.finish.specs.Finish.{floor}
 use Rattle.table.specs.Table.{rowCount, columnCount}
-use Rattle.independence.specs.Antenna.{Antenna, floorPlus, carriesHeight, looksUp, heightLeft}
+use Rattle.independence.specs.Antenna.{Antenna, floorPlus, carriesHeight, hasSecondCall, heightLeft}
 
 -- the term "filled rows": first to last MHz of a card, here of one that passes the tests of its input
 pub record Fills (A : Antenna) (c : A .Card) (m : ℕ) : Type 0 where
@@ -29,12 +29,12 @@ pub record Laws (A : Antenna) : Type 0 where
   pub finiteHeight : (c : A .Card) (m : ℕ) → Fills A c m → T (finite (heightLeft A c m))
   -- on the ground the refusal does not depend on it, nor does the gain of types 3 and 4; the gain of the others is -30 plus the type's efficiency
   pub groundRefusal : (c : A .Card) (m : ℕ) (h h′ : Float) → Fills A c m → A .call c m 0 h .refusal ≡ A .call c m 0 h′ .refusal
-  pub groundSame : (c : A .Card) (m : ℕ) (h h′ : Float) → Fills A c m → T (looksUp (A .typeOf c)) → A .call c m 0 h .gain ≡ A .call c m 0 h′ .gain
-  pub groundGain : (c : A .Card) (m : ℕ) (h : Float) → Fills A c m → T (not (looksUp (A .typeOf c))) → A .call c m 0 h .refusal ≡ 0
+  pub groundSame : (c : A .Card) (m : ℕ) (h h′ : Float) → Fills A c m → T (hasSecondCall (A .typeOf c)) → A .call c m 0 h .gain ≡ A .call c m 0 h′ .gain
+  pub groundGain : (c : A .Card) (m : ℕ) (h : Float) → Fills A c m → T (not (hasSecondCall (A .typeOf c))) → A .call c m 0 h .refusal ≡ 0
       → A .call c m 0 h .gain ≡ floorPlus (A .efficiencyOf (A .typeOf c) h)
   -- the efficiency on the ground depends on it for types 2 and 5 alone; type 8's is zero
   pub efficiencySame : (kop : ℕ) (h h′ : Float) → T (not (carriesHeight kop)) → A .efficiencyOf kop h ≡ A .efficiencyOf kop h′
   pub efficiencyOf8 : (h : Float) → A .efficiencyOf 8 h ≡ num 0 1
   -- outside types 2, 3 and 4 a gain that is a number is above -30 or is -30 plus its efficiency
-  pub floored : (c : A .Card) (m d : ℕ) (h : Float) → Fills A c m → d < columnCount → T (not (eqb (A .typeOf c) 2 || looksUp (A .typeOf c))) → A .call c m d h .refusal ≡ 0
+  pub floored : (c : A .Card) (m d : ℕ) (h : Float) → Fills A c m → d < columnCount → T (not (eqb (A .typeOf c) 2 || hasSecondCall (A .typeOf c))) → A .call c m d h .refusal ≡ 0
       → (A .call c m d h .gain ≡ nan) ⊎ (T (lt floor (A .call c m d h .gain)) ⊎ (A .call c m d h .gain ≡ floorPlus (A .call c m d h .efficiency)))

@@ -13,7 +13,7 @@ use Rattle.curtain.specs.Cell as Curtain
 use Rattle.patterns.specs.Pattern.{settledAt, patternOf}
 use Rattle.patterns.specs.Antenna.{antennaOf}
 use Rattle.rows.specs.Row.{sokFor, eff8For, rowOf}
-use Rattle.cells.specs.Cell.{looksUp, curtainCell, cellOf, cellGain}
+use Rattle.cells.specs.Cell.{blendsWithZenith, curtainCell, cellOf, cellGain}
 use Rattle.gain_core.specs.Core.{aboveGround, atGround, workOf}
 use Rattle.ioncap.specs.Gain.{callOutside, mhzOutside, callRefusal, callWork, gainOf, gainNumber, gainValue}
 use Rattle.table.specs.Table.{isTable}
@@ -26,5 +26,5 @@ use Rattle.output.specs.Field.{spelled, decimal, text, justified, integerField}
 use Rattle.marked_examples.specs.Examples.{same, sameBytes, accepted, groundIs, curtainIs, coneIs, table, lookupIs, allHold}
 
 pub marked-examples-hold : T allHold
-unfolding allHold groundIs curtainIs coneIs lookupIs table accepted same sameBytes gainOf gainNumber gainValue callRefusal callOutside mhzOutside callWork workOf atGround aboveGround looksUp cellGain cellOf curtainCell antennaOf sokFor eff8For rowOf patternOf settledAt Curtain.cellOf rainOf sokOf takesPattern floored efficiencyOf monopoleEfficiency groundOf curtainElevationThreshold isType firstRefusal isIoncapType outside anyOutside tooManyBays absolute cutToward isTable clamped nextOf placeOf Table.rowOf Table.blended lookupRefusal gainLookupValues coneFreqs coneElevs cone upperFrom upperOf interpOf weightOf coneAt coneValue invconNumber invconValue integerField justified text decimal spelled round add sub mul div le lt eq neg toBits ofInt toSigned
+unfolding allHold groundIs curtainIs coneIs lookupIs table accepted same sameBytes gainOf gainNumber gainValue callRefusal callOutside mhzOutside callWork workOf atGround aboveGround blendsWithZenith cellGain cellOf curtainCell antennaOf sokFor eff8For rowOf patternOf settledAt Curtain.cellOf rainOf sokOf takesPattern floored efficiencyOf monopoleEfficiency groundOf curtainElevationThreshold isType firstRefusal isIoncapType outside anyOutside tooManyBays absolute cutToward isTable clamped nextOf placeOf Table.rowOf Table.blended lookupRefusal gainLookupValues coneFreqs coneElevs cone upperFrom upperOf interpOf weightOf coneAt coneValue invconNumber invconValue integerField justified text decimal spelled round add sub mul div le lt eq neg toBits ofInt toSigned
 marked-examples-hold = tt

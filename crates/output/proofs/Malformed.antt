@@ -12,8 +12,8 @@ use lib.ListN.{length, take, drop, getD}
 use Rattle.single.specs.Answer.{IsAnswer}
 use Rattle.single.proofs.Answer.{answers}
 use Rattle.output.specs.Digits.{spacesOf, readOn, digitsOf, unspaced, signedOf}
-use Rattle.output.specs.Integer.{integer, integerOf, integerRefusal, integerValue}
-use Rattle.output.specs.Decimal.{tenThousandths, pointed, decimalOf, decimalRefusal, decimalValue}
+use Rattle.output.specs.Integer.{integer, integerOf, integerNumber, integerValue}
+use Rattle.output.specs.Decimal.{tenThousandths, pointed, decimalOf, decimalNumber, decimalValue}
 use Rattle.output.specs.Malformed.{allDigits, isDigits, isUnspaced, isSigned, isInteger, isDecimal}
 use Rattle.output.specs.declared.reading.Signed.{Signed}
 use Rattle.output.specs.declared.reading.Signed.the-variants.{Read, Unread}
@@ -52,42 +52,42 @@ signed-read : (most : ℕ) (l : List ℕ) → isRead (signedOf most l) ≡ isSig
 unfolding signedOf isSigned
 signed-read most l = unspaced-read most (drop (spacesOf l) l)
 
-of-signed : (s : Signed) → integerRefusal (integer s) ≡ cond (isRead s) 0 8
+of-signed : (s : Signed) → integerNumber (integer s) ≡ cond (isRead s) 0 8
 unfolding integer
 of-signed (Read true n) = refl
 of-signed (Read false n) = refl
 of-signed Unread = refl
 
-of-parts : (a : Signed) (p : ℕ) (f : Signed) → decimalRefusal (pointed a p f) ≡ cond (isRead a && (isRead f && eqb p 46)) 0 8
+of-parts : (a : Signed) (p : ℕ) (f : Signed) → decimalNumber (pointed a p f) ≡ cond (isRead a && (isRead f && eqb p 46)) 0 8
 unfolding pointed
 of-parts Unread p f = refl
 of-parts (Read minus a) p Unread = refl
 of-parts (Read minus a) p (Read s b) = go (tenThousandths minus (a * 10000 + b)) (eqb p 46)
   where
-    go : (x : Float) (point : Bool) → decimalRefusal (cond point (D.Value x) D.Malformed) ≡ cond point 0 8
+    go : (x : Float) (point : Bool) → decimalNumber (cond point (D.Value x) D.Malformed) ≡ cond point 0 8
     go x true = refl
     go x false = refl
 
 -- ---- what is promised
-pub integer-reading : (l : List ℕ) (r : Integer) → r ≡ integerOf l → IsAnswer integerRefusal integerValue (pos 0) 8 (integerOf l) (isInteger l) r
+pub integer-reading : (l : List ℕ) (r : Integer) → r ≡ integerOf l → IsAnswer integerNumber integerValue (pos 0) 8 (integerOf l) (isInteger l) r
 unfolding integerOf isInteger
 integer-reading l =
-    answers integerRefusal integerValue (pos 0) 8 (omega arith) cases (integerOf l) (isInteger l)
+    answers integerNumber integerValue (pos 0) 8 (omega arith) cases (integerOf l) (isInteger l)
     (of-signed (signedOf 18 l) ∙ ap (λ (b : Bool). cond b 0 8) (signed-read 18 l))
   where
-    cases : (a : Integer) → (integerRefusal a ≡ 0) ⊎ (integerValue a ≡ pos 0)
+    cases : (a : Integer) → (integerNumber a ≡ 0) ⊎ (integerValue a ≡ pos 0)
     cases (I.Number n) = inl refl
     cases I.Malformed = inr refl
 
 pub decimal-reading : (l : List ℕ) (r : Decimal) → r ≡ decimalOf l
-    → IsAnswer decimalRefusal decimalValue (fin false 0 (pos 0)) 8 (decimalOf l) (isDecimal l) r
+    → IsAnswer decimalNumber decimalValue (fin false 0 (pos 0)) 8 (decimalOf l) (isDecimal l) r
 unfolding decimalOf isDecimal
 decimal-reading l =
     let a = signedOf 4 (take (length l - 5) l) in
     let f = digitsOf false 4 (drop (length l - 4) l) in
-    answers decimalRefusal decimalValue (fin false 0 (pos 0)) 8 (omega arith) cases (decimalOf l) (isDecimal l)
+    answers decimalNumber decimalValue (fin false 0 (pos 0)) 8 (omega arith) cases (decimalOf l) (isDecimal l)
     (rw (← signed-read 4 (take (length l - 5) l), ← digits-read false 4 (drop (length l - 4) l)) (of-parts a (getD l (length l - 5) 0) f))
   where
-    cases : (a : Decimal) → (decimalRefusal a ≡ 0) ⊎ (decimalValue a ≡ fin false 0 (pos 0))
+    cases : (a : Decimal) → (decimalNumber a ≡ 0) ⊎ (decimalValue a ≡ fin false 0 (pos 0))
     cases (D.Value x) = inl refl
     cases D.Malformed = inr refl

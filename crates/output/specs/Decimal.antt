@@ -27,9 +27,9 @@ unfoldable pub decimalOf : List ℕ → Decimal
 decimalOf l = pointed (signedOf 4 (take (length l - 5) l)) (getD l (length l - 5) 0) (digitsOf false 4 (drop (length l - 4) l))
 
 -- document 01's number of each answer, 8 for what is malformed, and its value, 0 where there is none
-abbrev pub decimalRefusal : Decimal → ℕ
-decimalRefusal (Value x) = 0
-decimalRefusal Malformed = 8
+abbrev pub decimalNumber : Decimal → ℕ
+decimalNumber (Value x) = 0
+decimalNumber Malformed = 8
 
 abbrev pub decimalValue : Decimal → Float
 decimalValue (Value x) = x

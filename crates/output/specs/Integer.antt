@@ -20,9 +20,9 @@ unfoldable pub integerOf : List ℕ → Integer
 integerOf l = integer (signedOf 18 l)
 
 -- document 01's number of each answer, 8 for what is malformed, and its value, 0 where there is none
-abbrev pub integerRefusal : Integer → ℕ
-integerRefusal (Number n) = 0
-integerRefusal Malformed = 8
+abbrev pub integerNumber : Integer → ℕ
+integerNumber (Number n) = 0
+integerNumber Malformed = 8
 
 abbrev pub integerValue : Integer → ℤ
 integerValue (Number n) = n

@@ -5,8 +5,8 @@ ghost use Prim.Native.Nat.{_≤_};
 ghost use Rattle.output.specs.Digits.{spacesOf, digitsOf, signedOf};
 ghost use lib.Ieee.{fin};
 ghost use lib.IntN.{pos};
-ghost use Rattle.output.specs.Integer.{integerOf, integerRefusal, integerValue};
-ghost use Rattle.output.specs.Decimal.{decimalOf, decimalRefusal, decimalValue};
+ghost use Rattle.output.specs.Integer.{integerOf, integerNumber, integerValue};
+ghost use Rattle.output.specs.Decimal.{decimalOf, decimalNumber, decimalValue};
 ghost use Rattle.output.specs.Malformed.{isInteger, isDecimal};
 ghost use Rattle.single.specs.Answer.{IsAnswer};
 use crate::nearest::ten_thousandths;
@@ -86,7 +86,7 @@ fn signed_digits(s: &[u8], most: usize) -> Signed
 
 // An integer field of any width, of at most 18 digits.
 pub fn read_integer(s: &[u8]) -> Integer
-    ensures { λ r. ⌜ IsAnswer integerRefusal integerValue (pos 0) 8 (integerOf (now (s .entry))) (isInteger (now (s .entry))) r ⌝ }
+    ensures { λ r. ⌜ IsAnswer integerNumber integerValue (pos 0) 8 (integerOf (now (s .entry))) (isInteger (now (s .entry))) r ⌝ }
 {
     let Signed::Read(minus, n) = signed_digits(s, 18) else {
         return Integer::Malformed;
@@ -99,7 +99,7 @@ pub fn read_integer(s: &[u8]) -> Integer
 
 // A decimal field of any width: spaces, an optional minus, 1 to 4 digits, a point, 4 digits.
 pub fn read_decimal(s: &[u8]) -> Decimal
-    ensures { λ r. ⌜ IsAnswer decimalRefusal decimalValue (fin false 0 (pos 0)) 8 (decimalOf (now (s .entry))) (isDecimal (now (s .entry))) r ⌝ }
+    ensures { λ r. ⌜ IsAnswer decimalNumber decimalValue (fin false 0 (pos 0)) 8 (decimalOf (now (s .entry))) (isDecimal (now (s .entry))) r ⌝ }
 {
     if s.len() < 6 {
         return Decimal::Malformed;

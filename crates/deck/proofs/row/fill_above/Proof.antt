@@ -27,7 +27,7 @@ loop-again : tie.Need-loop-again Inv-loop μ-loop
 loop-again c = let columns = c .before .before .before .before .before .before .before .before .before .before .before .pre .3 in
     let k = c .before .before .before .before .before .loop-test .taken in
     stored-step _ _ _ _ _ _ (c .before .before .before .before .before .before .loop .inv) k
-    (c .cell-gain .ensures ∙ ap₂ (λ (delta : Float) (e : Elevation). cellGain (c .before .before .before .before .before .before .before .before .before .before .before .args .row) (c .before .before .before .before .before .before .before .before .before .before .before .args .up) (c .before .before .before .before .before .before .before .before .before .before .before .args .azimuth) delta e) (columns .delta _ k) (c .before .before .elevation-of .ensures ∙ column-read _ _ _ _ columns k))
+    (c .cell-gain .ensures ∙ ap₂ (λ (delta : Float) (e : Elevation). cellGain (c .before .before .before .before .before .before .before .before .before .before .before .args .row) (c .before .before .before .before .before .before .before .before .before .before .before .args .zenith) (c .before .before .before .before .before .before .before .before .before .before .before .args .azimuth) delta e) (columns .delta _ k) (c .before .before .elevation-of .ensures ∙ column-read _ _ _ _ columns k))
 
 same-length : tie.Need-same-length Inv-loop μ-loop
 same-length c = c .before .loop .inv .length

@@ -43,7 +43,7 @@ same-length c = search (needs, c .before .before .fill-above .ensures .1 ∙ len
 returns-2 : tie.Need-returns-2
 returns-2 c =
     row-settled _ _ _ _ _ _ _ _ _ _ _ (sym (c .before .before .before .before .before .before .before .before .before .before .before .before .before .row-of .ensures .0) ∙ c .before .before .before .before .before .before .before .before .before .before .before .row .given .1)
-    (toZ-ofZ w32 _ (search needs)) (c .before .before .before .before .before .before .before .before .before .up-for .ensures) (c .before .before .before .before .before .before .elevation-of .ensures ∙ column-read _ _ _ 0 (c .before .before .before .before .before .before .before .before .before .before .before .before .before .before .before .before .before .before .before .pre .3) (omega arith))
+    (toZ-ofZ w32 _ (search needs)) (c .before .before .before .before .before .before .before .before .before .zenith-gain-for .ensures) (c .before .before .before .before .before .before .elevation-of .ensures ∙ column-read _ _ _ 0 (c .before .before .before .before .before .before .before .before .before .before .before .before .before .before .before .before .before .before .before .pre .3) (omega arith))
     (c .before .before .before .before .ground-cell .ensures) (c .before .before .fill-above .ensures .0)
 
 pub fill-row-spec : {M : Type 1} → statement M

@@ -13,7 +13,7 @@ returns c = above-answers (c .before .before .before .args .antenna) (c .before 
 
 returns-2 : tie.Need-returns-2
 unfolding aboveGround
-returns-2 c = above-answers (c .before .before .before .before .before .before .args .antenna) (c .before .before .before .before .before .before .args .fmc) (c .before .before .before .before .before .before .args .e) (c .before .before .before .before .before .before .args .delta) _ (rw (← c .before .before .before .before .before .row-of .ensures .0, c .before .before .before .row .given .1, ← c .before .up-for .ensures, ← c .cell-gain .ensures))
+returns-2 c = above-answers (c .before .before .before .before .before .before .args .antenna) (c .before .before .before .before .before .before .args .fmc) (c .before .before .before .before .before .before .args .e) (c .before .before .before .before .before .before .args .delta) _ (rw (← c .before .before .before .before .before .row-of .ensures .0, c .before .before .before .row .given .1, ← c .before .zenith-gain-for .ensures, ← c .cell-gain .ensures))
 
 pub above-ground-spec : {M : Type 1} → statement M
 above-ground-spec =

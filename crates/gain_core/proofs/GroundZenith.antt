@@ -22,7 +22,7 @@ use Rattle.finish.specs.Finish.{floor, efficiencyOf, floored, groundOf}
 use Rattle.patterns.specs.declared.antenna.Antenna.{Antenna}
 use Rattle.rows.specs.declared.row.Row.{Row}
 use Rattle.rows.specs.declared.row.RowAnswer.the-variants as R
-use Rattle.cells.specs.Cell.{straightUp, blendOf}
+use Rattle.cells.specs.Cell.{zenithGain, blendOf}
 use Rattle.gain_core.specs.Core.{groundFrom, workGain}
 
 abbrev horizon : Elevation
@@ -59,7 +59,7 @@ low : (kop : ℤ) (height : Float) → (kop ≡ pos 3) ⊎ (kop ≡ pos 4) → g
 unfolding groundOf floored efficiencyOf isType add neg round le lt eq
 low kop height t = elim t [ inl p ↦ rw p refl | inr p ↦ rw p refl ]
 
-pub ground-up : (antenna : Antenna) (height : Float) (row : Row) (n : Turns) → (antenna .kop ≡ pos 3) ⊎ (antenna .kop ≡ pos 4)
-    → workGain (groundFrom antenna horizon height (R.Settled row n)) ≡ cond (finite (straightUp row)) floor nan
+pub ground-zenith : (antenna : Antenna) (height : Float) (row : Row) (n : Turns) → (antenna .kop ≡ pos 3) ⊎ (antenna .kop ≡ pos 4)
+    → workGain (groundFrom antenna horizon height (R.Settled row n)) ≡ cond (finite (zenithGain row)) floor nan
 unfolding blendOf
-ground-up antenna height row n t = rw (low (antenna .kop) height t, s-at-0) (blended (straightUp row))
+ground-zenith antenna height row n t = rw (low (antenna .kop) height t, s-at-0) (blended (zenithGain row))
