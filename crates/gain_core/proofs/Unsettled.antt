@@ -61,14 +61,6 @@ module _ (antenna : Antenna) (fmc : Float) (e : Elevation) where
       go true t = rw t (ground-number height)
       go false t = rw t (above-number delta)
 
-  pub above-answers : (delta : Float) (r : Worked) → r ≡ aboveGround antenna fmc delta e
-      → IsAnswer workNumber workValues zeroValues 11 (aboveGround antenna fmc delta e) (patternSettles antenna (waveOf fmc)) r
-  above-answers delta = work-answers (aboveGround antenna fmc delta e) (patternSettles antenna (waveOf fmc)) (above-number delta)
-
-  pub ground-answers : (height : Float) (r : Worked) → r ≡ atGround antenna fmc e height
-      → IsAnswer workNumber workValues zeroValues 11 (atGround antenna fmc e height) (groundSettles antenna fmc) r
-  ground-answers height = work-answers (atGround antenna fmc e height) (groundSettles antenna fmc) (ground-number height)
-
   pub all-answers : (delta height : Float) (r : Worked) → r ≡ workOf antenna fmc delta e height
       → IsAnswer workNumber workValues zeroValues 11 (workOf antenna fmc delta e height) (workSettles antenna fmc delta) r
   all-answers delta height = work-answers (workOf antenna fmc delta e height) (workSettles antenna fmc delta) (work-number delta height)

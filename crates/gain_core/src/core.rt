@@ -1,13 +1,14 @@
 // `iongain` by value, within the limits: at the ground by the carried height, above it without.
+ghost use mathlib.Core.Bool.{not, _&&_};
 ghost use mathlib.Core.Path.{_≡_};
+ghost use lib.Ieee.{le};
+ghost use Rattle.single.specs.Single.{num};
 ghost use Rattle.single.specs.Answer.{IsAnswer};
-ghost use Rattle.reflection.specs.Angles.{waveOf};
-ghost use Rattle.patterns.specs.Pattern.{patternSettles};
-ghost use Rattle.gain_core.specs.Core.{zenithGainFor, aboveGround, atGround, workOf};
-ghost use Rattle.gain_core.specs.Core.{groundSettles, workSettles, workNumber, workValues, zeroValues};
+ghost use Rattle.cells.specs.Cell.{blendsWithZenith};
+ghost use Rattle.gain_core.specs.Core.{zenithGainFor, workOf, workSettles, workNumber, workValues, zeroValues};
 use cells::blend;
-use cells::blends_with_zenith;
 use cells::cell_gain;
+use cells::blends_with_zenith;
 use cells::zenith_gain;
 use integrals::Turns;
 use patterns::Antenna;
@@ -38,31 +39,32 @@ pub fn zenith_gain_for(row: Row) -> f32
     0.0
 }
 
-pub fn above_ground(antenna: Antenna, fmc: f32, delta: f32, e: Elevation) -> Worked
-    ensures { λ r. ⌜ IsAnswer workNumber workValues zeroValues 11 (aboveGround antenna fmc delta e) (patternSettles antenna (waveOf fmc)) r ⌝ }
+// Whether the path at the ground takes no row: types 3 and 4 take the zenith's gain there too.
+fn without_row(kop: i32, delta: f32) -> bool
+    ensures { λ r. ⌜ r ≡ (le delta (num 0 1) && not (blendsWithZenith kop)) ⌝ }
 {
+    if delta <= 0.0 { !blends_with_zenith(kop) } else { false }
+}
+
+// `e` has the elevation's sine and cosine. `row_of` is called in one place, so that it is compiled
+// into it: a call would hand the row over through memory.
+pub fn work(antenna: Antenna, fmc: f32, delta: f32, e: Elevation, height: f32) -> Worked
+    ensures { λ r. ⌜ IsAnswer workNumber workValues zeroValues 11 (workOf antenna fmc delta e height) (workSettles antenna fmc delta) r ⌝ }
+{
+    if without_row(antenna.kop, delta) {
+        let low = finish::ground_gain(antenna.kop, height);
+        return Worked::Settled(Call {
+            gain: low.gain,
+            efficiency: low.efficiency,
+            height,
+            turns: Turns { ci: 0, si: 0 },
+        });
+    }
     let RowAnswer::Settled(row, turns) = rows::row_of(antenna, fmc) else {
         return Worked::Unsettled;
     };
-    let gain = cell_gain(row, zenith_gain_for(row), antenna.azimuth, delta, e);
-    Worked::Settled(Call {
-        gain,
-        efficiency: row.eff,
-        height: row.x,
-        turns,
-    })
-}
-
-// Types 3 and 4 look straight up here too, and leave 1; any other leaves the height as it is.
-pub fn at_ground(antenna: Antenna, fmc: f32, e: Elevation, height: f32) -> Worked
-    ensures { λ r. ⌜ IsAnswer workNumber workValues zeroValues 11 (atGround antenna fmc e height) (groundSettles antenna fmc) r ⌝ }
-{
-    let kop = antenna.kop;
-    let low = finish::ground_gain(kop, height);
-    if blends_with_zenith(kop) {
-        let RowAnswer::Settled(row, turns) = rows::row_of(antenna, fmc) else {
-            return Worked::Unsettled;
-        };
+    if delta <= 0.0 {
+        let low = finish::ground_gain(antenna.kop, height);
         return Worked::Settled(Call {
             gain: blend(e, zenith_gain(row), low.gain),
             efficiency: low.efficiency,
@@ -70,20 +72,11 @@ pub fn at_ground(antenna: Antenna, fmc: f32, e: Elevation, height: f32) -> Worke
             turns,
         });
     }
+    let gain = cell_gain(row, zenith_gain_for(row), antenna.azimuth, delta, e);
     Worked::Settled(Call {
-        gain: low.gain,
-        efficiency: low.efficiency,
-        height,
-        turns: Turns { ci: 0, si: 0 },
+        gain,
+        efficiency: row.eff,
+        height: row.x,
+        turns,
     })
-}
-
-// `e` has the elevation's sine and cosine.
-pub fn work(antenna: Antenna, fmc: f32, delta: f32, e: Elevation, height: f32) -> Worked
-    ensures { λ r. ⌜ IsAnswer workNumber workValues zeroValues 11 (workOf antenna fmc delta e height) (workSettles antenna fmc delta) r ⌝ }
-{
-    if delta <= 0.0 {
-        return at_ground(antenna, fmc, e, height);
-    }
-    above_ground(antenna, fmc, delta, e)
 }

@@ -3,7 +3,5 @@ mod core;
 
 pub use core::Call;
 pub use core::Worked;
-pub use core::above_ground;
-pub use core::at_ground;
 pub use core::work;
 pub use core::zenith_gain_for;
