@@ -7,8 +7,8 @@ ghost use Rattle.single.specs.Answer.{IsAnswer};
 ghost use Rattle.cells.specs.Cell.{blendsWithZenith};
 ghost use Rattle.gain_core.specs.Core.{zenithGainFor, workOf, workSettles, workNumber, workValues, zeroValues};
 use cells::blend;
-use cells::cell_gain;
 use cells::blends_with_zenith;
+use cells::cell_gain;
 use cells::zenith_gain;
 use integrals::Turns;
 use patterns::Antenna;
@@ -43,7 +43,11 @@ pub fn zenith_gain_for(row: Row) -> f32
 fn without_row(kop: i32, delta: f32) -> bool
     ensures { λ r. ⌜ r ≡ (le delta (num 0 1) && not (blendsWithZenith kop)) ⌝ }
 {
-    if delta <= 0.0 { !blends_with_zenith(kop) } else { false }
+    if delta <= 0.0 {
+        !blends_with_zenith(kop)
+    } else {
+        false
+    }
 }
 
 // `e` has the elevation's sine and cosine. `row_of` is called in one place, so that it is compiled
