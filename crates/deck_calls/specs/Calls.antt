@@ -7,6 +7,8 @@ use lib.IntN.{ℤ}
 use lib.ListN.{length}
 use lib.Ieee.{Float}
 use Rattle.parameters.specs.Model.{modelOf}
+use Rattle.limits.specs.Tests.{lengthRefusal}
+use Rattle.table.specs.Table.{refusedTable}
 use Rattle.independence.specs.Deck.{Deck, Outcome, outcomeOn}
 use Rattle.deck.specs.declared.fields.Fields.{Fields}
 use Rattle.deck.specs.Antenna.{theAntenna}
@@ -22,9 +24,9 @@ deckAt h = record { height = h; accepted = 0; refused = 0 }
 abbrev pub outcomeAt : Fields → Float → List Float → Outcome
 outcomeAt f h t = outcomeOn theAntenna countLimit (deckAt h) (cardEntry f t)
 
--- 7 where there aren't 20 slots, and then nothing is written
+-- without 20 slots the call is refused by 9 or 7, and the table is a refused card's
 unfoldable pub fillNumber : Fields → Float → List Float → ℕ
-fillNumber f h t = cond (eqb (length (f .slots)) 20) (outcomeAt f h t .verdict) 7
+fillNumber f h t = cond (eqb (length (f .slots)) 20) (outcomeAt f h t .verdict) (lengthRefusal h)
 
 unfoldable pub filled : Fields → Float → List Float → List Float
-filled f h t = cond (eqb (length (f .slots)) 20) (outcomeAt f h t .table) t
+filled f h t = cond (eqb (length (f .slots)) 20) (outcomeAt f h t .table) (refusedTable t)

@@ -20,8 +20,7 @@ fn slots_of(list: &[f32]) -> [f32; SLOTS]
     slots
 }
 
-// The verdict, on a deck with this height and no cards yet. 7 and nothing written where there aren't
-// 20 slots.
+// The verdict, on a deck with this height and no cards yet. Without 20 slots it is 9 or 7.
 #[no_mangle]
 pub extern "C" fn deck_fill(
     kop: i32,
@@ -37,7 +36,8 @@ pub extern "C" fn deck_fill(
     ensures { λ _. ⌜ now (table .exit) ≡ filled (fieldsOf kop first last toaz (now (slots .entry)) model) height (now (table .entry)) ⌝ }
 {
     if slots.len() != SLOTS {
-        return 7;
+        table::clear_refused(table);
+        return limits::length_refusal(height);
     }
     let fields = Fields {
         kop,

@@ -40,9 +40,13 @@ pub(crate) fn rhombic(first: i32, last: i32) -> Fields {
     card(1, first, last, [70.0, 115.0, 18.0, 0.0, 0.0, 0.0, 0.0])
 }
 
-// Type 2 or 5 with its height.
-pub(crate) fn monopole(kop: i32, first: i32, last: i32, height: f32) -> Fields {
-    card(kop, first, last, [height, 0.0, 0.0, 0.0, 0.0, 0.0, 0.0])
+pub(crate) fn monopole(first: i32, last: i32, height: f32) -> Fields {
+    card(2, first, last, [height, 0.0, 0.0, 0.0, 0.0, 0.0, 0.0])
+}
+
+// Type 5, whose height is a quarter of a wavelength.
+pub(crate) fn log_periodic(first: i32, last: i32, gain: f32) -> Fields {
+    card(5, first, last, [gain, 0.0, 0.0, 0.0, 0.0, 0.0, 0.0])
 }
 
 pub(crate) fn curtain(first: i32, last: i32, elements: f32) -> Fields {
@@ -62,14 +66,14 @@ const MALFORMED: usize = 7;
 pub(crate) fn entry_card(k: usize) -> Fields {
     match k {
         1 => rhombic(2, 4),
-        2 => monopole(2, 2, 3, -0.1),
+        2 => monopole(2, 3, -0.1),
         3 => card(11, 2, 4, [0.0; 7]),
         4 => curtain(5, 6, 4.0),
-        5 => monopole(5, 7, 8, 3.0),
+        5 => log_periodic(7, 8, 3.0),
         6 => card(3, 9, 10, [-0.5, 12.0, 0.0, 0.0, 0.0, 0.0, 0.0]),
-        8 => monopole(2, 1, 1, 4.0),
+        8 => monopole(1, 1, 4.0),
         9 => card(10, 29, 30, [70.0, 115.0, 18.0, 3.0, 15.0, 0.0, 0.0]),
-        _ => monopole(5, 1, 30, -0.2),
+        _ => log_periodic(1, 30, -0.2),
     }
 }
 

@@ -1,6 +1,6 @@
 -- Document 01, "From the input" and "From the state": the tests that a gain call and a card have in common. Definitions only.
 use Prim.Native.Nat.{ℕ}
-use mathlib.Core.Bool.{Bool, false, not, _&&_, _||_}
+use mathlib.Core.Bool.{Bool, true, false, not, _&&_, _||_}
 use mathlib.Core.List.{List, [], _∷_}
 use lib.IntN.{ℤ, pos}
 use lib.Signed.{leZ}
@@ -49,6 +49,11 @@ baysTest kop bays = refuse 5 (tooManyBays kop bays)
 
 abbrev pub heightTest : Float → Test
 heightTest h = refuse 9 (not (finite h))
+
+-- a call with a slice of the wrong length is refused before its numbers are judged: 9, else 7
+unfoldable pub lengthRefusal : Float → ℕ
+unfolding firstRefusal
+lengthRefusal height = firstRefusal (heightTest height ∷ refuse 7 true ∷ [])
 
 -- refusals 1 to 5 in their order
 abbrev pub inputTests : ℤ → Bool → Float → Bool → Float → List Test

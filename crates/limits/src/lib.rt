@@ -6,3 +6,4 @@ pub use numbers::MOST;
 pub use numbers::any_outside;
 pub use numbers::is_finite;
 pub use refusal::input_refusal;
+pub use refusal::length_refusal;

@@ -1,6 +1,7 @@
-// Refusals 1 to 5, in their order.
+// Refusals 1 to 5, in their order, and those of a slice of the wrong length.
 ghost use mathlib.Core.Path.{_≡_};
-ghost use Rattle.limits.specs.Tests.{isIoncapType, tooManyBays, inputRefusal};
+ghost use Rattle.limits.specs.Tests.{isIoncapType, tooManyBays, lengthRefusal, inputRefusal};
+use crate::numbers::is_finite;
 
 const MOST_BAYS: f32 = 64.0;
 
@@ -17,6 +18,13 @@ fn too_many_bays(kop: i32, bays: f32) -> bool
         6 => bays > MOST_BAYS,
         _ => false,
     }
+}
+
+// Of a call with a slice of the wrong length: the height is judged before.
+pub fn length_refusal(height: f32) -> u32
+    ensures { λ r. ⌜ r ≡ lengthRefusal height ⌝ }
+{
+    if is_finite(height) { 7 } else { 9 }
 }
 
 // The numbers and the MHz are judged by the caller, whose own they are.
