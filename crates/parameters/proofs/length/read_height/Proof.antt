@@ -15,4 +15,4 @@ unfolding heightSlotOf
 returns-2 c = rw (no-type _ 2 (c .before .match .rest .1)) (c .read-length .ensures)
 
 pub read-height-spec : {M : Type 1} → statement M
-read-height-spec = tie.close (tie.spec returns (λ c κs. search needs) returns-2)
+read-height-spec = tie.close (tie.spec (λ c κs. search needs) returns returns-2)
