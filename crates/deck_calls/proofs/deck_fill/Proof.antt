@@ -26,7 +26,7 @@ accepts f g h t t′ v d e n p =
 
 returns : tie.Need-returns
 unfolding fillNumber filled
-returns c = let e = ne-eqb _ _ (c .before .before .if1 .taken) in (simp e (c .length-refusal .ensures), simp e (c .before .clear-refused .ensures))
+returns c = let e = ne-eqb _ _ (c .before .before .before .before .before .if1 .taken) in (simp e (c .length-refusal .ensures), simp e (c .before .before .before .clear-refused .ensures))
 
 returns-2 : tie.Need-returns-2
 returns-2 c =
@@ -42,5 +42,5 @@ returns-2 c =
 pub deck-fill-spec : {M : Type 1} → statement M
 deck-fill-spec =
     tie.close
-    (tie.spec (λ c κs. search needs) (λ c κs. search needs) returns (λ c κs. search needs) (λ c κs. search needs) (λ c κs. search needs) (λ c. search needs)
+    (tie.spec (λ c κs. search needs) (λ c κs. search needs) (λ c. search needs) returns (λ c κs. search needs) (λ c κs. search needs) (λ c κs. search needs) (λ c. search needs)
     returns-2)
