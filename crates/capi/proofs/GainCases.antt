@@ -21,7 +21,8 @@ use Rattle.ioncap.specs.declared.gain.Gain.{Gain}
 use Rattle.ioncap.specs.declared.gain.Gain.the-variants.{Accepted, Refused}
 use Rattle.ioncap.specs.declared.gain.GainCall.{GainCall}
 use Rattle.capi.specs.Answer.{answerLength, answerBytes, answered}
-use Rattle.capi.specs.Gain.{lengthRefusal, gainResult, gainAnswer}
+use Rattle.limits.specs.Tests.{lengthRefusal}
+use Rattle.capi.specs.Gain.{gainResult, gainAnswer}
 
 -- the call that is made is the one handed in
 pub handed : (kop kop′ model model′ : ℤ) (m : Model) (toaz : Float) (params : IoncapParams) (delta fmc height : Float) (g : Gain) → kop′ ≡ kop → model′ ≡ model → m ≡ modelOf model′

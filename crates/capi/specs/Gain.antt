@@ -1,6 +1,6 @@
 -- Document 01 section 9: the gain call through C. Definitions only.
 use Prim.Native.Nat.{ℕ}
-use mathlib.Core.Bool.{true, not, cond}
+use mathlib.Core.Bool.{not, cond}
 use mathlib.Core.List.{List, [], _∷_}
 use lib.Dec.{eqb}
 use lib.IntN.{ℤ}
@@ -45,8 +45,3 @@ unfoldable pub gainAnswer : GainCall → Float → List ℕ → List ℕ
 gainAnswer call height answer =
     let gain = gainOf call height in
     answered answer (answerBytes (gainValue gain) (efficiencyValue gain) (heightLeft gain height))
-
--- of an answer that isn't 12 bytes
-unfoldable pub lengthRefusal : Float → ℕ
-unfolding firstRefusal
-lengthRefusal height = firstRefusal (heightTest height ∷ refuse 7 true ∷ [])

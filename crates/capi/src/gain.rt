@@ -1,18 +1,11 @@
 // The gain entry.
 ghost use mathlib.Core.Path.{_≡_};
-ghost use Rattle.capi.specs.Gain.{callOf, lengthRefusal, gainResult, gainAnswer};
+ghost use Rattle.capi.specs.Gain.{callOf, gainResult, gainAnswer};
 use crate::answers::ANSWER_LENGTH;
 use crate::answers::write_answer;
 use ioncap::Gain;
 use ioncap::GainCall;
 use parameters::IoncapParams;
-
-// Of an answer that isn't 12 bytes: the height is judged before.
-fn length_refusal(height: f32) -> u32
-    ensures { λ r. ⌜ r ≡ lengthRefusal height ⌝ }
-{
-    if limits::is_finite(height) { 7 } else { 9 }
-}
 
 // `iongain` at the carried height, with the parameters in `IoncapParams`' order.
 #[no_mangle]
@@ -38,7 +31,7 @@ pub extern "C" fn ioncap_gain(
     ensures { λ _. ⌜ now (answer .exit) ≡ gainAnswer (callOf kop toaz asig aeps and anl anh aex1 aex2 aex3 aex4 delta fmc model) height (now (answer .entry)) ⌝ }
 {
     if answer.len() != ANSWER_LENGTH {
-        return length_refusal(height);
+        return limits::length_refusal(height);
     }
     let aex = [aex1, aex2, aex3, aex4];
     let params = IoncapParams {

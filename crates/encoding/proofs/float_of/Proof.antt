@@ -3,12 +3,9 @@ use borrow.Author.Needs.{needs}
 use Rattle.encoding.proofs.float_of.Statement.{statement}
 use Rattle.encoding.proofs.float_of.Tie as tie
 
-returns : tie.Need-returns
-unfolding floatOf
-returns c = c .float .ensures
-
 pub float-of-spec : {M : Type 1} → statement M
+unfolding floatOf
 float-of-spec =
     tie.close
     (tie.spec (λ c. search needs) (λ c. search needs) (λ c. search needs) (λ c. search needs)
-    (λ c. search needs) (λ c. search needs) (λ c κs. search needs) returns)
+    (λ c. search needs) (λ c. search needs) (λ c κs. search needs) (λ c. c .float .ensures))

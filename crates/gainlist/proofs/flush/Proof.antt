@@ -4,8 +4,7 @@ use borrow.Author.Needs.{needs}
 use Rattle.gainlist.proofs.flush.Statement.{statement}
 use Rattle.gainlist.proofs.flush.Tie as tie
 
-slice-aggregate-write-all : tie.Need-slice-aggregate-write-all
-slice-aggregate-write-all c = sym (length-take-le _ _ (search needs))
-
 pub flush-spec : {M : Type 1} → statement M
-flush-spec = tie.close (tie.spec slice-aggregate-write-all (λ c κs. search needs) (λ c. search needs))
+flush-spec =
+    tie.close
+    (tie.spec (λ c. sym (length-take-le _ _ (search needs))) (λ c κs. search needs) (λ c. search needs))

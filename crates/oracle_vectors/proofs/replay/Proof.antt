@@ -14,15 +14,10 @@ Inv-loop list bytes fd table₀ carried₀ tally₀ table carried tally = length
 abbrev μ-loop : tie.MeasureT-loop
 μ-loop list bytes fd table₀ carried₀ tally₀ table carried tally = 1000000 - tally .compared
 
-slice-aggregate-read-full : tie.Need-slice-aggregate-read-full Inv-loop μ-loop
-slice-aggregate-read-full c = sym (length-take-le _ _ (omega arith))
-
-loop-less : tie.Need-loop-less Inv-loop μ-loop
-loop-less c = fewer-left _ _ _ (c .counted .ensures) (search needs)
-
 pub replay-spec : {M : Type 1} → statement M
 replay-spec =
     tie.close
     (tie.spec Inv-loop μ-loop (λ c κs. search needs) (λ c. search needs) (λ c. search needs)
-    slice-aggregate-read-full (λ c κs. search needs) (λ c. search needs) (λ c κs. search needs)
-    (λ c κs. search needs) loop-less (λ c. search needs) (λ c. search needs) (λ c. search needs))
+    (λ c. sym (length-take-le _ _ (omega arith))) (λ c κs. search needs) (λ c. search needs)
+    (λ c κs. search needs) (λ c κs. search needs) (λ c. fewer-left _ _ _ (c .counted .ensures) (search needs))
+    (λ c. search needs) (λ c. search needs) (λ c. search needs))

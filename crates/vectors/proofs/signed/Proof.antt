@@ -11,15 +11,9 @@ use Rattle.vectors.proofs.signed.Tie as tie
 complement-twice : (n : ℕ) → n ≤ 4294967295 → 4294967295 - (4294967295 - n) ≡ n
 complement-twice n n-fits = omega arith
 
-returns : tie.Need-returns
-unfolding signedOf
-returns c = refl
-
-returns-2 : tie.Need-returns-2
-unfolding signedOf
-returns-2 c = ap (toZ w32) (complement-twice (c .before .args .bits) (search needs))
-
 pub signed-spec : {M : Type 1} → statement M
+unfolding signedOf
 signed-spec =
     tie.close
-    (tie.spec (λ c. search needs) (λ c. search needs) (λ c. search needs) returns returns-2)
+    (tie.spec (λ c. search needs) (λ c. search needs) (λ c. search needs) (λ c. refl)
+    (λ c. ap (toZ w32) (complement-twice (c .before .args .bits) (search needs))))

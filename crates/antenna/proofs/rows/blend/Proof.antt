@@ -3,9 +3,6 @@ use Rattle.antenna.specs.Rows.{blended}
 use Rattle.antenna.proofs.rows.blend.Statement.{statement}
 use Rattle.antenna.proofs.rows.blend.Tie as tie
 
-returns : tie.Need-returns
-unfolding blended
-returns c = refl
-
 pub blend-spec : {M : Type 1} → statement M
-blend-spec = tie.close (tie.spec returns)
+unfolding blended
+blend-spec = tie.close (tie.spec (λ c. refl))

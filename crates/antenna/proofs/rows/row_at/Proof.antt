@@ -4,14 +4,11 @@ use borrow.Author.Needs.{needs}
 use Rattle.antenna.proofs.rows.row_at.Statement.{statement}
 use Rattle.antenna.proofs.rows.row_at.Tie as tie
 
-returns : tie.Need-returns
-unfolding rowOf
-returns c = refl
-
 pub row-at-spec : {M : Type 1} → statement M
+unfolding rowOf
 row-at-spec =
     tie.close
     (tie.spec (λ c. search needs) (λ c. search needs) (λ c. search needs) (λ c. search needs)
     (λ c. search needs) (λ c. search needs) (λ c. search needs) (λ c. search needs) (λ c. search needs)
     (λ c. search needs) (λ c. search needs) (λ c. search needs) (λ c. search needs) (λ c. search needs)
-    returns)
+    (λ c. refl))

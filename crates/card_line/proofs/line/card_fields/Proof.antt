@@ -4,13 +4,10 @@ use borrow.Author.Needs.{needs}
 use Rattle.card_line.proofs.line.card_fields.Statement.{statement}
 use Rattle.card_line.proofs.line.card_fields.Tie as tie
 
-returns : tie.Need-returns
-unfolding fieldsOf round ofBits
-returns c = search needs
-
 pub card-fields-spec : {M : Type 1} → statement M
+unfolding fieldsOf round ofBits
 card-fields-spec =
     tie.close
     (tie.spec (λ c. search needs) (λ c. search needs) (λ c. search needs) (λ c. search needs)
     (λ c. search needs) (λ c. search needs) (λ c. search needs) (λ c. search needs) (λ c. search needs)
-    (λ c. search needs) returns)
+    (λ c. search needs) (λ c. search needs))

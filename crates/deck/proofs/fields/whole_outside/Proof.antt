@@ -18,11 +18,8 @@ below : (n x : ℤ) → x ≡ n → leZ (negsuc 999) x ≡ false → true ≡ wh
 unfolding wholeOutside
 below n x e t = rw (← e, t)
 
-returns : tie.Need-returns
-returns c = from-below _ _ (toZ-ofZ w32 _ (search needs)) (c .if1 .taken)
-
-returns-2 : tie.Need-returns-2
-returns-2 c = below _ _ (toZ-ofZ w32 _ (search needs)) (c .if1 .left)
-
 pub whole-outside-spec : {M : Type 1} → statement M
-whole-outside-spec = tie.close (tie.spec (λ c. search needs) returns returns-2)
+whole-outside-spec =
+    tie.close
+    (tie.spec (λ c. search needs) (λ c. from-below _ _ (toZ-ofZ w32 _ (search needs)) (c .if1 .taken))
+    (λ c. below _ _ (toZ-ofZ w32 _ (search needs)) (c .if1 .left)))

@@ -4,9 +4,6 @@ use borrow.Author.Needs.{needs}
 use Rattle.dipoles.proofs.pattern.interference_of.Statement.{statement}
 use Rattle.dipoles.proofs.pattern.interference_of.Tie as tie
 
-returns : tie.Need-returns
-unfolding interference round ofBits
-returns c = rw (← c .cos .ensures)
-
 pub interference-of-spec : {M : Type 1} → statement M
-interference-of-spec = tie.close (tie.spec (λ c κs. search needs) returns)
+unfolding interference round ofBits
+interference-of-spec = tie.close (tie.spec (λ c κs. search needs) (λ c. rw (← c .cos .ensures)))

@@ -3,9 +3,9 @@ use borrow.Author.Needs.{needs}
 use Rattle.integrals.proofs.pair.larger_turns.Statement.{statement}
 use Rattle.integrals.proofs.pair.larger_turns.Tie as tie
 
-returns : tie.Need-returns
-unfolding largerTurns
-returns c = rw (← c .before .larger .ensures, ← c .larger2 .ensures)
-
 pub larger-turns-spec : {M : Type 1} → statement M
-larger-turns-spec = tie.close (tie.spec (λ c κs. search needs) (λ c κs. search needs) returns)
+unfolding largerTurns
+larger-turns-spec =
+    tie.close
+    (tie.spec (λ c κs. search needs) (λ c κs. search needs)
+    (λ c. rw (← c .before .larger .ensures, ← c .larger2 .ensures)))

@@ -4,9 +4,8 @@ use Rattle.integrals.specs.Rational.{rationalOf}
 use Rattle.integrals.proofs.rational.rational.Statement.{statement}
 use Rattle.integrals.proofs.rational.rational.Tie as tie
 
-returns : tie.Need-returns
-unfolding rationalOf round ofBits
-returns c = rw (← c .sin-cos .ensures .1, ← c .sin-cos .ensures .0)
-
 pub rational-spec : {M : Type 1} → statement M
-rational-spec = tie.close (tie.spec (λ c κs. search needs) returns)
+unfolding rationalOf round ofBits
+rational-spec =
+    tie.close
+    (tie.spec (λ c κs. search needs) (λ c. rw (← c .sin-cos .ensures .1, ← c .sin-cos .ensures .0)))

@@ -5,9 +5,8 @@ use borrow.Author.Needs.{needs}
 use Rattle.integrals.proofs.series.si_series.Statement.{statement}
 use Rattle.integrals.proofs.series.si_series.Tie as tie
 
-returns : tie.Need-returns
-unfolding siSeries round ofBits
-returns c = si-answers (c .before .args .x) _ (c .sum-series .ensures)
-
 pub si-series-spec : {M : Type 1} → statement M
-si-series-spec = tie.close (tie.spec (λ c κs. search needs) returns)
+unfolding siSeries round ofBits
+si-series-spec =
+    tie.close
+    (tie.spec (λ c κs. search needs) (λ c. si-answers (c .before .args .x) _ (c .sum-series .ensures)))

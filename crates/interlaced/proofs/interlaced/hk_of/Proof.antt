@@ -4,9 +4,6 @@ use Rattle.interlaced.specs.Interlaced.{h1vOf, h2Of, hkOf}
 use Rattle.interlaced.proofs.interlaced.hk_of.Statement.{statement}
 use Rattle.interlaced.proofs.interlaced.hk_of.Tie as tie
 
-returns : tie.Need-returns
-unfolding h1vOf h2Of hkOf round ofBits
-returns c = refl
-
 pub hk-of-spec : {M : Type 1} → statement M
-hk-of-spec = tie.close (tie.spec returns)
+unfolding h1vOf h2Of hkOf round ofBits
+hk-of-spec = tie.close (tie.spec (λ c. refl))

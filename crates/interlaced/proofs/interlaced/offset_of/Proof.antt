@@ -4,9 +4,6 @@ use borrow.Author.Needs.{needs}
 use Rattle.interlaced.proofs.interlaced.offset_of.Statement.{statement}
 use Rattle.interlaced.proofs.interlaced.offset_of.Tie as tie
 
-returns : tie.Need-returns
-unfolding offsetOf round ofBits
-returns c = rw (← c .sqrt .ensures)
-
 pub offset-of-spec : {M : Type 1} → statement M
-offset-of-spec = tie.close (tie.spec (λ c κs. search needs) returns)
+unfolding offsetOf round ofBits
+offset-of-spec = tie.close (tie.spec (λ c κs. search needs) (λ c. rw (← c .sqrt .ensures)))

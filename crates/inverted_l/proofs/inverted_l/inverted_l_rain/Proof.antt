@@ -4,9 +4,9 @@ use borrow.Author.Needs.{needs}
 use Rattle.inverted_l.proofs.inverted_l.inverted_l_rain.Statement.{statement}
 use Rattle.inverted_l.proofs.inverted_l.inverted_l_rain.Tie as tie
 
-returns : tie.Need-returns
-unfolding invertedLRain round ofBits
-returns c = rw (← c .before .before .g2 .ensures, ← c .before .f1 .ensures)
-
 pub inverted-l-rain-spec : {M : Type 1} → statement M
-inverted-l-rain-spec = tie.close (tie.spec (λ c κs. search needs) (λ c κs. search needs) returns)
+unfolding invertedLRain round ofBits
+inverted-l-rain-spec =
+    tie.close
+    (tie.spec (λ c κs. search needs) (λ c κs. search needs)
+    (λ c. rw (← c .before .before .g2 .ensures, ← c .before .f1 .ensures)))

@@ -18,11 +18,8 @@ below : (k : ℤ) → SFits w32 k → leZ (pos 1) (toZ w32 (ofZ w32 k)) ≡ fals
 unfolding isIoncapType
 below k f = subst (λ (z : ℤ). leZ (pos 1) z ≡ false → false ≡ isIoncapType k) (sym (toZ-ofZ w32 k f)) (λ t. rw t)
 
-returns : tie.Need-returns
-returns c = between (c .before .args .kop) (search needs) (c .if1 .taken)
-
-returns-2 : tie.Need-returns-2
-returns-2 c = below (c .before .args .kop) (search needs) (c .if1 .left)
-
 pub is-ioncap-type-spec : {M : Type 1} → statement M
-is-ioncap-type-spec = tie.close (tie.spec returns returns-2)
+is-ioncap-type-spec =
+    tie.close
+    (tie.spec (λ c. between (c .before .args .kop) (search needs) (c .if1 .taken))
+    (λ c. below (c .before .args .kop) (search needs) (c .if1 .left)))

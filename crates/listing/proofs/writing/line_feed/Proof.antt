@@ -3,8 +3,7 @@ use borrow.Author.Needs.{needs}
 use Rattle.listing.proofs.writing.line_feed.Statement.{statement}
 use Rattle.listing.proofs.writing.line_feed.Tie as tie
 
-returns : tie.Need-returns
-returns c = one-byte _ _ _ (c .pre)
-
 pub line-feed-spec : {M : Type 1} → statement M
-line-feed-spec = tie.close (tie.spec (λ c. search needs) (λ c. search needs) (λ c. search needs) returns)
+line-feed-spec =
+    tie.close
+    (tie.spec (λ c. search needs) (λ c. search needs) (λ c. search needs) (λ c. one-byte _ _ _ (c .pre)))

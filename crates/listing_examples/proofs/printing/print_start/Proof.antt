@@ -4,10 +4,8 @@ use borrow.Author.Needs.{needs}
 use Rattle.listing_examples.proofs.printing.print_start.Statement.{statement}
 use Rattle.listing_examples.proofs.printing.print_start.Tie as tie
 
-slice-aggregate-write-all : tie.Need-slice-aggregate-write-all
-slice-aggregate-write-all c = sym (length-take-le _ _ (search needs))
-
 pub print-start-spec : {M : Type 1} → statement M
 print-start-spec =
     tie.close
-    (tie.spec slice-aggregate-write-all (λ c κs. search needs) (λ c. search needs) (λ c. search needs))
+    (tie.spec (λ c. sym (length-take-le _ _ (search needs))) (λ c κs. search needs) (λ c. search needs)
+    (λ c. search needs))

@@ -4,9 +4,6 @@ use Rattle.logarithm.specs.Logarithm.{lnAt}
 use Rattle.logarithm.proofs.logarithm.ln_at.Statement.{statement}
 use Rattle.logarithm.proofs.logarithm.ln_at.Tie as tie
 
-returns : tie.Need-returns
-unfolding lnAt round ofBits
-returns c = refl
-
 pub ln-at-spec : {M : Type 1} → statement M
-ln-at-spec = tie.close (tie.spec returns)
+unfolding lnAt round ofBits
+ln-at-spec = tie.close (tie.spec (λ c. refl))

@@ -4,9 +4,6 @@ use borrow.Author.Needs.{needs}
 use Rattle.logarithm.proofs.logarithm.log10.Statement.{statement}
 use Rattle.logarithm.proofs.logarithm.log10.Tie as tie
 
-returns : tie.Need-returns
-unfolding logarithm10 round ofBits
-returns c = rw (← c .ln .ensures)
-
 pub log10-spec : {M : Type 1} → statement M
-log10-spec = tie.close (tie.spec (λ c κs. search needs) returns)
+unfolding logarithm10 round ofBits
+log10-spec = tie.close (tie.spec (λ c κs. search needs) (λ c. rw (← c .ln .ensures)))

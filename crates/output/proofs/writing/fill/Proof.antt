@@ -13,17 +13,10 @@ Inv-loop out₀ b i₀ out i = Filled b out₀ out i
 abbrev μ-loop : tie.MeasureT-loop
 μ-loop out₀ b i₀ out i = length out₀ - i
 
-loop-holds : tie.Need-loop-holds Inv-loop μ-loop
-loop-holds c = record { low = omega arith; long = refl; is = refl }
-
-loop-again : tie.Need-loop-again Inv-loop μ-loop
-loop-again c = fill-step _ _ _ _ (c .before .loop .inv) (c .loop-test .taken)
-
-returns : tie.Need-returns Inv-loop μ-loop
-returns c = fill-ends _ _ _ _ (c .before .loop .inv) (c .loop-test .left)
-
 pub fill-spec : {M : Type 1} → statement M
 fill-spec =
     tie.close
-    (tie.spec Inv-loop μ-loop loop-holds (λ c. search needs) (λ c. omega arith) (λ c. omega arith) loop-again
-    (λ c. search needs) returns)
+    (tie.spec Inv-loop μ-loop (λ c. record { low = omega arith; long = refl; is = refl }) (λ c. search needs)
+    (λ c. omega arith) (λ c. omega arith)
+    (λ c. fill-step _ _ _ _ (c .before .loop .inv) (c .loop-test .taken)) (λ c. search needs)
+    (λ c. fill-ends _ _ _ _ (c .before .loop .inv) (c .loop-test .left)))

@@ -4,8 +4,8 @@ use borrow.Author.Needs.{needs}
 use Rattle.patterns.proofs.antenna.antenna_with.Statement.{statement}
 use Rattle.patterns.proofs.antenna.antenna_with.Tie as tie
 
-returns : tie.Need-returns
-returns c = rw (toZ-ofZ w32 (c .before .args .kop) (search needs), ← c .azimuth-of .ensures)
-
 pub antenna-with-spec : {M : Type 1} → statement M
-antenna-with-spec = tie.close (tie.spec (λ c κs. search needs) returns)
+antenna-with-spec =
+    tie.close
+    (tie.spec (λ c κs. search needs)
+    (λ c. rw (toZ-ofZ w32 (c .before .args .kop) (search needs), ← c .azimuth-of .ensures)))

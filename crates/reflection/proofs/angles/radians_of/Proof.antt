@@ -4,9 +4,6 @@ use Rattle.reflection.specs.Angles.{radiansOf}
 use Rattle.reflection.proofs.angles.radians_of.Statement.{statement}
 use Rattle.reflection.proofs.angles.radians_of.Tie as tie
 
-returns : tie.Need-returns
-unfolding radiansOf round ofBits
-returns c = refl
-
 pub radians-of-spec : {M : Type 1} → statement M
-radians-of-spec = tie.close (tie.spec returns)
+unfolding radiansOf round ofBits
+radians-of-spec = tie.close (tie.spec (λ c. refl))

@@ -4,9 +4,6 @@ use Rattle.reflection.specs.Angles.{waveOf}
 use Rattle.reflection.proofs.angles.wave_of.Statement.{statement}
 use Rattle.reflection.proofs.angles.wave_of.Tie as tie
 
-returns : tie.Need-returns
-unfolding waveOf round ofBits
-returns c = refl
-
 pub wave-of-spec : {M : Type 1} → statement M
-wave-of-spec = tie.close (tie.spec returns)
+unfolding waveOf round ofBits
+wave-of-spec = tie.close (tie.spec (λ c. refl))

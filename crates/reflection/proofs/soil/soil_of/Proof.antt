@@ -4,9 +4,9 @@ use borrow.Author.Needs.{needs}
 use Rattle.reflection.proofs.soil.soil_of.Statement.{statement}
 use Rattle.reflection.proofs.soil.soil_of.Tie as tie
 
-returns : tie.Need-returns
-unfolding xOf uOf vOf asxvOf soilOf round ofBits
-returns c = rw (← c .before .sqrt .ensures, ← c .asin .ensures)
-
 pub soil-of-spec : {M : Type 1} → statement M
-soil-of-spec = tie.close (tie.spec (λ c κs. search needs) (λ c κs. search needs) returns)
+unfolding xOf uOf vOf asxvOf soilOf round ofBits
+soil-of-spec =
+    tie.close
+    (tie.spec (λ c κs. search needs) (λ c κs. search needs)
+    (λ c. rw (← c .before .sqrt .ensures, ← c .asin .ensures)))

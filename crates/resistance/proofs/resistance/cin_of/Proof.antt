@@ -4,9 +4,6 @@ use borrow.Author.Needs.{needs}
 use Rattle.resistance.proofs.resistance.cin_of.Statement.{statement}
 use Rattle.resistance.proofs.resistance.cin_of.Tie as tie
 
-returns : tie.Need-returns
-unfolding cinOf round ofBits
-returns c = rw (← c .ln .ensures)
-
 pub cin-of-spec : {M : Type 1} → statement M
-cin-of-spec = tie.close (tie.spec (λ c κs. search needs) returns)
+unfolding cinOf round ofBits
+cin-of-spec = tie.close (tie.spec (λ c κs. search needs) (λ c. rw (← c .ln .ensures)))

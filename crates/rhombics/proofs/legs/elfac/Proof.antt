@@ -4,9 +4,9 @@ use borrow.Author.Needs.{needs}
 use Rattle.rhombics.proofs.legs.elfac.Statement.{statement}
 use Rattle.rhombics.proofs.legs.elfac.Tie as tie
 
-returns : tie.Need-returns
-unfolding u1Of u2Of elfacOf round ofBits
-returns c = rw (← c .before .sin .ensures, ← c .sin2 .ensures)
-
 pub elfac-spec : {M : Type 1} → statement M
-elfac-spec = tie.close (tie.spec (λ c κs. search needs) (λ c κs. search needs) returns)
+unfolding u1Of u2Of elfacOf round ofBits
+elfac-spec =
+    tie.close
+    (tie.spec (λ c κs. search needs) (λ c κs. search needs)
+    (λ c. rw (← c .before .sin .ensures, ← c .sin2 .ensures)))

@@ -3,9 +3,9 @@ use borrow.Author.Needs.{needs}
 use Rattle.slopes.proofs.slope.vee_slope.Statement.{statement}
 use Rattle.slopes.proofs.slope.vee_slope.Tie as tie
 
-returns : tie.Need-returns
-unfolding veeSlope
-returns c = rw (← c .before .rise-of .ensures, ← c .slope-of .ensures)
-
 pub vee-slope-spec : {M : Type 1} → statement M
-vee-slope-spec = tie.close (tie.spec (λ c κs. search needs) (λ c κs. search needs) returns)
+unfolding veeSlope
+vee-slope-spec =
+    tie.close
+    (tie.spec (λ c κs. search needs) (λ c κs. search needs)
+    (λ c. rw (← c .before .rise-of .ensures, ← c .slope-of .ensures)))

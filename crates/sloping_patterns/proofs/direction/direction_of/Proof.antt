@@ -4,9 +4,6 @@ use Rattle.sloping_patterns.specs.Direction.{directionOf}
 use Rattle.sloping_patterns.proofs.direction.direction_of.Statement.{statement}
 use Rattle.sloping_patterns.proofs.direction.direction_of.Tie as tie
 
-returns : tie.Need-returns
-unfolding directionOf round ofBits
-returns c = refl
-
 pub direction-of-spec : {M : Type 1} → statement M
-direction-of-spec = tie.close (tie.spec returns)
+unfolding directionOf round ofBits
+direction-of-spec = tie.close (tie.spec (λ c. refl))

@@ -3,9 +3,6 @@ use Rattle.sloping_patterns.specs.Vee.{verticalOf}
 use Rattle.sloping_patterns.proofs.vee.vertical_of.Statement.{statement}
 use Rattle.sloping_patterns.proofs.vee.vertical_of.Tie as tie
 
-returns : tie.Need-returns
-unfolding verticalOf
-returns c = refl
-
 pub vertical-of-spec : {M : Type 1} → statement M
-vertical-of-spec = tie.close (tie.spec returns)
+unfolding verticalOf
+vertical-of-spec = tie.close (tie.spec (λ c. refl))

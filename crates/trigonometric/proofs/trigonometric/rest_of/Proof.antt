@@ -4,9 +4,6 @@ use Rattle.trigonometric.specs.Trigonometric.{rest}
 use Rattle.trigonometric.proofs.trigonometric.rest_of.Statement.{statement}
 use Rattle.trigonometric.proofs.trigonometric.rest_of.Tie as tie
 
-returns : tie.Need-returns
-unfolding rest round ofBits
-returns c = refl
-
 pub rest-of-spec : {M : Type 1} → statement M
-rest-of-spec = tie.close (tie.spec returns)
+unfolding rest round ofBits
+rest-of-spec = tie.close (tie.spec (λ c. refl))

@@ -4,9 +4,8 @@ use borrow.Author.Needs.{needs}
 use Rattle.trigonometric.proofs.trigonometric.sine_at.Statement.{statement}
 use Rattle.trigonometric.proofs.trigonometric.sine_at.Tie as tie
 
-returns : tie.Need-returns
-unfolding sineAt
-returns c = by-quadrant (c .args .q) _ _ _ _ (c .pre)
-
 pub sine-at-spec : {M : Type 1} → statement M
-sine-at-spec = tie.close (tie.spec (λ c. search needs) (λ c. search needs) returns)
+unfolding sineAt
+sine-at-spec =
+    tie.close
+    (tie.spec (λ c. search needs) (λ c. search needs) (λ c. by-quadrant (c .args .q) _ _ _ _ (c .pre)))

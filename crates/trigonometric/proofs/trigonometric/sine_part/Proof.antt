@@ -4,9 +4,6 @@ use Rattle.trigonometric.specs.Trigonometric.{sinePart}
 use Rattle.trigonometric.proofs.trigonometric.sine_part.Statement.{statement}
 use Rattle.trigonometric.proofs.trigonometric.sine_part.Tie as tie
 
-returns : tie.Need-returns
-unfolding sinePart round ofBits
-returns c = refl
-
 pub sine-part-spec : {M : Type 1} → statement M
-sine-part-spec = tie.close (tie.spec returns)
+unfolding sinePart round ofBits
+sine-part-spec = tie.close (tie.spec (λ c. refl))
