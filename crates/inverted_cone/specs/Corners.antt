@@ -3,20 +3,19 @@ use Prim.Native.Nat.{ℕ, _-_}
 use mathlib.Core.List.{List, []}
 use lib.ListN.{getD}
 use lib.Ieee.{Float, nan}
-use Rattle.inverted_cone.specs.InvertedCone.{coneElevs, cone}
+use Rattle.inverted_cone.specs.InvertedCone.{cone}
 use Rattle.inverted_cone.specs.declared.cone.Corners.{Corners}
 
--- columns ifr and ifr - 1 of a row and of the row above it
-unfoldable pub cornersIn : ℕ → Float → List Float → Float → List Float → Corners
-cornersIn ifr low low-row high high-row =
+-- columns ifr and ifr - 1 of two rows
+unfoldable pub cornersIn : ℕ → List Float → List Float → Corners
+cornersIn ifr low high =
     record {
-      low = low;
-      «low_gain» = getD low-row ifr nan;
-      «low_before» = getD low-row (ifr - 1) nan;
-      high = high;
-      «high_gain» = getD high-row ifr nan;
-      «high_before» = getD high-row (ifr - 1) nan;
+      «low_gain» = getD low ifr nan;
+      «low_before» = getD low (ifr - 1) nan;
+      «high_gain» = getD high ifr nan;
+      «high_before» = getD high (ifr - 1) nan;
     }
 
+-- of rows ian - 1 and ian
 unfoldable pub cornersAt : ℕ → ℕ → Corners
-cornersAt ian ifr = cornersIn ifr (getD coneElevs (ian - 1) nan) (getD cone (ian - 1) []) (getD coneElevs ian nan) (getD cone ian [])
+cornersAt ian ifr = cornersIn ifr (getD cone (ian - 1) []) (getD cone ian [])
