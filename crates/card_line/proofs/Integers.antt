@@ -1,5 +1,5 @@
 -- The integers of a line: three columns hold less than 1000. Assumes nothing.
-use mathlib.Core.Path.{_≡_, refl, sym, ap, subst, _∙_}
+use mathlib.Core.Path.{_≡_, sym, ap, subst, _∙_}
 use mathlib.Core.List.{List}
 use Prim.Native.Nat.{ℕ, _≤_, _<_}
 use native.Mathlib.Nat.{min-le-left, pow-le-pow-right, zero-lt-suc, lt-of-lt-of-le}
@@ -10,8 +10,7 @@ use mir.Syntax.{w32, w64}
 use mir.Val.{SFits, toZ, ofZ}
 use mir.ValLaws.{toZ-ofZ}
 use Rattle.single.proofs.Integers.{within}
-use Rattle.output.specs.declared.reading.Integer.{Integer}
-use Rattle.output.specs.declared.reading.Integer.the-variants.{Number, Malformed}
+use Rattle.output.specs.declared.reading.Integer.the-variants.{Number}
 use Rattle.output.specs.Integer.{integerValue}
 use Rattle.output.proofs.Sizes.{integer-within, integer-fits}
 use Rattle.card_line.specs.Line.{columns, integerAt}
@@ -20,14 +19,6 @@ pub number-below : (l : List ℕ) (a : ℕ) (z : ℤ) → integerAt l a ≡ Numb
 number-below l a z e =
     let three : length (columns a 3 l) ≤ 3 = subst (λ (n : ℕ). n ≤ 3) (sym (length-take 3 (drop a l))) (min-le-left 3 (length (drop a l))) in
     lt-of-lt-of-le (integer-within (columns a 3 l) z e) (pow-le-pow-right (zero-lt-suc 9) three)
-
--- also where there is no number
-pub integer-below : (l : List ℕ) (a : ℕ) → natAbs (integerValue (integerAt l a)) < 1000
-integer-below l a = go (integerAt l a) refl
-  where
-    go : (r : Integer) → integerAt l a ≡ r → natAbs (integerValue r) < 1000
-    go (Number z) e = number-below l a z e
-    go Malformed e = lit≤ tt
 
 -- ---- read as an i64, taken as an i32
 -- as the code hands it on

@@ -13,7 +13,7 @@ use Rattle.deck.specs.declared.card.Card.{Card}
 use Rattle.deck.specs.Fields.{paramsFor}
 use Rattle.deck.specs.Columns.{elevationAt, columnAt}
 
--- the leg and the height by the term "kind", metres or wavelengths, once `ioninit` has read the slots
+-- leg and height are each "metres or wavelengths, said by a kind", once `ioninit` has read the slots
 unfoldable pub cardOf : Fields → Card
 cardOf f =
     record {

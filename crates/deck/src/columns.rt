@@ -1,21 +1,22 @@
 // What the columns of a table have in common: the elevations of 0 to 90 degrees.
+ghost use Rattle.table.specs.Table.{columnCount};
 ghost use Rattle.deck.specs.Columns.{ColumnsAre};
 use elementary::SineCosine;
 use table::COLUMNS;
 
 // In radians, with their cosines and sines.
 pub(crate) struct Columns {
-    pub deltas: [f32; 91],
-    pub cosines: [f32; 91],
-    pub sines: [f32; 91],
+    pub deltas: [f32; COLUMNS],
+    pub cosines: [f32; COLUMNS],
+    pub sines: [f32; COLUMNS],
 }
 
 pub(crate) fn all_columns() -> Columns
-    ensures { λ r. ⌜ ColumnsAre (r .deltas) (r .cosines) (r .sines) 91 ⌝ }
+    ensures { λ r. ⌜ ColumnsAre (r .deltas) (r .cosines) (r .sines) columnCount ⌝ }
 {
-    let mut deltas = [0.0f32; 91];
-    let mut cosines = [0.0f32; 91];
-    let mut sines = [0.0f32; 91];
+    let mut deltas = [0.0f32; COLUMNS];
+    let mut cosines = [0.0f32; COLUMNS];
+    let mut sines = [0.0f32; COLUMNS];
     let mut d: usize = 0;
     while d < COLUMNS {
         let degrees = d as u16;

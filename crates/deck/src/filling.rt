@@ -1,6 +1,7 @@
 // The filling of a card's rows, by rising MHz.
 ghost use mathlib.Core.Path.{_≡_};
 ghost use lib.ListN.{length};
+ghost use Rattle.table.specs.Table.{tableLength};
 ghost use Rattle.independence.specs.Contracts.{CardDone};
 ghost use Rattle.deck.specs.Fields.{fieldsRefusal};
 ghost use Rattle.deck.specs.Antenna.{theAntenna};
@@ -13,7 +14,7 @@ use crate::row::Filled;
 use crate::row::fill_row;
 
 pub(crate) fn fill_card(fields: Fields, height: f32, table: &mut [f32]) -> Filled
-    requires { ⌜ (length (now table) ≡ 2760) × (fieldsRefusal fields ≡ 0) ⌝ }
+    requires { ⌜ (length (now table) ≡ tableLength) × (fieldsRefusal fields ≡ 0) ⌝ }
     ensures { λ r. ⌜ CardDone theAntenna fields height (now (table .entry)) (now (table .exit)) (r .refusal) (r .height) ⌝ }
 {
     let card = read_card(fields);

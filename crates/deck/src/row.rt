@@ -2,6 +2,7 @@
 ghost use mathlib.Core.Path.{_≡_};
 ghost use Prim.Native.Nat.{_≤_};
 ghost use lib.ListN.{length};
+ghost use Rattle.table.specs.Table.{rowCount, columnCount, tableLength};
 ghost use Rattle.deck.specs.Columns.{ColumnsAre};
 ghost use Rattle.deck.specs.Row.{groundCell, cellAt, storedAbove, RowOfFields};
 use patterns::Antenna;
@@ -39,7 +40,7 @@ fn fill_above(
     sines: &[f32],
     table: &mut [f32],
 )
-    requires { ⌜ (length (now table) ≡ 2760) × (1 ≤ m) × (m ≤ 30) × ColumnsAre (now deltas) (now cosines) (now sines) 91 ⌝ }
+    requires { ⌜ (length (now table) ≡ tableLength) × (1 ≤ m) × (m ≤ rowCount) × ColumnsAre (now deltas) (now cosines) (now sines) columnCount ⌝ }
     ensures { λ _. ⌜ (now (table .exit) ≡ storedAbove (cellAt row zenith azimuth) m 90 (now (table .entry)))
         × (length (now (table .exit)) ≡ length (now (table .entry))) ⌝ }
 {
@@ -62,7 +63,7 @@ pub(crate) fn fill_row(
     sines: &[f32],
     table: &mut [f32],
 ) -> Filled
-    requires { ⌜ (length (now table) ≡ 2760) × (1 ≤ m) × (m ≤ 30) × ColumnsAre (now deltas) (now cosines) (now sines) 91 ⌝ }
+    requires { ⌜ (length (now table) ≡ tableLength) × (1 ≤ m) × (m ≤ rowCount) × ColumnsAre (now deltas) (now cosines) (now sines) columnCount ⌝ }
     ensures { λ r. ⌜ RowOfFields antenna m height (now (table .entry)) (now (table .exit)) (r .refusal) (r .height) ⌝ }
 {
     let mhz = m as u16;

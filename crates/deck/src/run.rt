@@ -13,13 +13,13 @@ use deck_state::refused_deck;
 // The refusal of a malformed line.
 const MALFORMED: u32 = 8;
 
-// What a card's run answers. `verdict` is the refusal number, 0 if accepted.
+// What the run of a card or of a malformed line answers. `verdict` is the refusal number, 0 if accepted.
 pub struct CardAnswer {
     pub deck: Deck,
     pub verdict: u32,
 }
 
-// All but 11, which arises in the work.
+// 10, 9, 7 and 1 to 5: all of a card's but 11, which arises in the work.
 fn refusal_before_work(deck: Deck, fields: Fields, table: &[f32]) -> u32
     ensures { λ r. ⌜ r ≡ refusalBeforeWork theAntenna countLimit (stateOf deck) fields (now (table .entry)) ⌝ }
 {

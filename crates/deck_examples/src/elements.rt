@@ -1,6 +1,5 @@
 // The curtain's elements per bay. Above ten they count as ten in the pattern, and straight up, on the
 // floor, as they are.
-ghost use Prim.Native.Nat.{_≤_};
 ghost use mathlib.Core.Path.{_≡_};
 ghost use lib.ListN.{length};
 use crate::example_cards::curtain;

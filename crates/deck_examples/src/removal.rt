@@ -1,5 +1,5 @@
 // A deck run with and without one of its entries.
-ghost use Prim.Native.Nat.{_+_, _*_, _≤_};
+ghost use Prim.Native.Nat.{_+_, _≤_};
 ghost use mathlib.Core.Path.{_≡_};
 ghost use lib.ListN.{length};
 use crate::example_cards::ENTRIES;

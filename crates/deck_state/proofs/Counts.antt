@@ -1,11 +1,11 @@
 -- Where an entry that is not refused by 10 has room, a refused one counts. Assumes nothing.
 use Prim.Native.Nat.{ℕ, suc, _+_, _<_, _≤_}
-use mathlib.Core.Path.{_≡_, refl, sym}
+use mathlib.Core.Path.{_≡_, refl}
 use mathlib.Core.Bool.{Bool, true, false, cond}
 use mathlib.Core.Logic.{_≢_}
 use native.Mathlib.Nat.{not-le-of-lt}
-use borrow.Author.Tests.{eqb-true, eqb-false, leb-true}
-use lib.Dec.{leb, eqb}
+use borrow.Author.Tests.{eqb-false, leb-true}
+use lib.Dec.{eqb}
 use Rattle.independence.specs.Deck.{Deck, refusedDeck}
 use Rattle.deck_state.specs.DeckState.{countLimit, isFull, refusedWithin}
 

@@ -17,8 +17,7 @@ use Rattle.rows.specs.declared.row.RowAnswer.{RowAnswer}
 use Rattle.rows.specs.declared.row.RowAnswer.the-variants as R
 use Rattle.rows.proofs.Unsettled.{row-number}
 use Rattle.cells.specs.Cell.{blendsWithZenith}
-use Rattle.gain_core.specs.Core.{aboveFrom, aboveGround, groundFrom, atGround, workOf}
-use Rattle.gain_core.specs.Core.{groundSettles, workSettles, workNumber, workValues, zeroValues}
+use Rattle.gain_core.specs.Core.{aboveFrom, aboveGround, groundFrom, atGround, workOf, groundSettles, workSettles, workNumber, workValues, zeroValues}
 use Rattle.gain_core.specs.declared.core.Worked.{Worked}
 use Rattle.gain_core.specs.declared.core.Worked.the-variants.{Settled, Unsettled}
 

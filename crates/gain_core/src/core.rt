@@ -39,7 +39,8 @@ pub fn zenith_gain_for(row: Row) -> f32
     0.0
 }
 
-// Whether the path at the ground takes no row: types 3 and 4 take the zenith's gain there too.
+// Whether a call takes no row: at the ground, outside types 3 and 4, which take the zenith's gain
+// there.
 fn without_row(kop: i32, delta: f32) -> bool
     ensures { λ r. ⌜ r ≡ (le delta (num 0 1) && not (blendsWithZenith kop)) ⌝ }
 {

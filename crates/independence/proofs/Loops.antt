@@ -80,9 +80,6 @@ module _ (A : Antenna) (L : Laws A) where
   pub row-done : (c : A .Card) (m : ℕ) (t₁ t : List Float) (d : ℕ) → GainsStored A c m t₁ t d → 91 ≤ d → GainsStored A c m t₁ t 91
   row-done c m t₁ t d s l = let top : d ≡ 91 = omega (arith, s .top) in subst (GainsStored A c m t₁ t) top s
 
-  pub stored-length : (c : A .Card) (m : ℕ) (t₀ t : List Float) (i d : ℕ) (g : Float) → GainsStored A c m (set t₀ i g) t d → length t ≡ length t₀
-  stored-length c m t₀ t i d g s = s .length ∙ length-set t₀ i g
-
   pub row-stops : (c : A .Card) (m : ℕ) (h : Float) (t₀ t : List Float) (r : ℕ) (y : Float) → length t ≡ length t₀ → r ≢ 0 → r ≡ cellsRefusal A c m h 91 → RowDone A c m h t₀ t r y
   row-stops c m h t₀ t r y l n e = record { verdict = e; length = l; table = λ z. absurd (n z); height = λ z. absurd (n z) }
 

@@ -9,8 +9,7 @@ use lib.Ieee.{Float}
 use Rattle.single.specs.Single.{num}
 use Rattle.limits.proofs.None.{anyHolds, zero-none}
 use Rattle.gain_core.specs.Core.{workNumber, workGain, workEfficiency, workHeight}
-use Rattle.ioncap.specs.Gain.{callTests, callRefusal, callWork, answered, gainOf, gainNumber, gainValue, efficiencyValue, heightLeft}
-use Rattle.ioncap.specs.Gain.{callNumber, callGain, callEfficiency, callHeight}
+use Rattle.ioncap.specs.Gain.{callTests, callRefusal, callWork, answered, gainOf, gainNumber, gainValue, efficiencyValue, heightLeft, callNumber, callGain, callEfficiency, callHeight}
 use Rattle.gain_core.specs.declared.core.Worked.{Worked}
 use Rattle.gain_core.specs.declared.core.Worked.the-variants as W
 use Rattle.ioncap.specs.declared.gain.GainCall.{GainCall}

@@ -1,22 +1,13 @@
 -- Laws of text appended to a buffer, and the lengths of the printed lines. Assumes nothing.
-use mathlib.Core.Path.{_≡_, refl, sym, ap, subst, _∙_}
+use mathlib.Core.Path.{_≡_, sym, ap, subst, _∙_}
 use mathlib.Core.List.{List, [], _∷_, _++_, append-assoc}
-use Prim.Native.Nat.{ℕ, zero, suc, _+_, _-_, _*_, _≤_, _<_}
+use Prim.Native.Nat.{ℕ, _+_, _-_, _≤_}
 use native.Mathlib.Omega.{arith}
 use native.Mathlib.Numerals.{add-one}
-use mir.Syntax.{w64}
-use mir.Val.{SFits, toZ, ofZ}
-use mir.ValLaws.{toZ-ofZ}
-use lib.IntN.{ℤ, pos}
-use lib.Ieee.{Float, nan}
-use lib.ListN.{length, take, drop, set, getD, length-append, length-drop, take-append-drop}
+use lib.ListN.{length, take, drop, set, length-append, length-drop, take-append-drop}
 use lib.Seq.{drop-drop, take-at, drop-at, length-take-le, set-split}
 use borrow.Rule.Slice.PartMut.{putMid}
-use Rattle.table.specs.Table.{gainAt, efficiencyAt}
-use Rattle.output.specs.Field.{integerField}
-use Rattle.output.specs.Hundredths.{hundredthsField}
 use Rattle.listing.specs.Appended.{Appended, overwritten}
-use Rattle.listing.specs.Text.{lineFeed, headingText, rowText, rowsText, countsText}
 
 -- ---- the buffer
 module _ {d : List ℕ} {a : ℕ} {t e : List ℕ} {b : ℕ} (x : Appended d a t e b) where

@@ -2,27 +2,25 @@
 use mathlib.Core.Path.{_≡_, refl, sym, ap, subst, _∙_}
 use mathlib.Core.Bool.{Bool, true, false, cond}
 use mathlib.Core.List.{List, [], _++_}
-use Prim.Native.Nat.{ℕ, suc, _+_, _*_, _≤_, _<_}
+use Prim.Native.Nat.{ℕ, suc, _+_, _≤_}
 use native.Mathlib.Omega.{arith}
 use borrow.Author.Tests.{ltb-false}
 use lib.Dec.{ltb}
 use lib.IntN.{ℤ, pos}
 use lib.Ieee.{Float}
-use lib.ListN.{length, length-append, replicate}
+use lib.ListN.{replicate}
 use Rattle.output.specs.Field.{integerField}
 use Rattle.output.proofs.Field.{stars}
-use Rattle.table.specs.Table.{cleared}
-use Rattle.independence.specs.Deck.{Deck, Line, card, malformed, Outcome, outcomeOn, deckAfter}
+use Rattle.independence.specs.Deck.{Deck, Line}
 use Rattle.deck_state.specs.declared.Deck as D
-use Rattle.deck.specs.Antenna.{theAntenna}
-use Rattle.deck.specs.Run.{countLimit, stateOf}
+use Rattle.deck.specs.Run.{stateOf}
 use Rattle.card_line.specs.declared.line.Line as L
 use Rattle.card_line.specs.Line.{lineOf}
 use Rattle.listing.specs.declared.session.Session as S
 use Rattle.listing.specs.Appended.{Appended}
 use Rattle.listing.specs.Text.{lineFeed, headingText}
 use Rattle.listing.specs.Listing.{lineIn, typeOf, rowsBy, entryOf, cardText}
-use Rattle.listing.specs.Session.{State, stateIn, counted, lineText, afterLine}
+use Rattle.listing.specs.Session.{counted, lineText, afterLine}
 use Rattle.listing.specs.Card.{LineRun, LineListed}
 use Rattle.listing.proofs.Buffer.{then, same}
 use Rattle.listing.proofs.Printed.{heading-length}
@@ -45,9 +43,6 @@ counted-heading n k v = go (ltb n 10000000) refl
 
 -- ---- the line
 module _ (s : S.Session) (q : List ℕ) (t t′ : List Float) (d e g : List ℕ) (a b c n v : ℕ) (k : ℤ) (d′ : D.Deck) (counts : n ≡ counted (s .listed)) where
-  abbrev entry-outcome : Outcome
-  entry-outcome = outcomeOn theAntenna countLimit (stateOf (s .deck)) (entryOf q)
-
   listed-line : k ≡ typeOf (lineIn (lineOf q)) → LineRun (stateOf (s .deck)) (lineOf q) t′ v (stateOf d′) → Appended d a (headingText n k v) e b → Appended e b (rowsBy (lineIn (lineOf q)) t′ v) g c → c ≤ b + 540
       → LineListed s q t t′ d a g (record { session = record { deck = d′; listed = n; held = 0 }; at = c })
   unfolding lineText cardText afterLine entryOf

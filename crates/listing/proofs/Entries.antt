@@ -8,8 +8,8 @@ use borrow.Author.Tests.{eq-eqb}
 use lib.ListN.{length}
 use lib.IntN.{ℤ, pos, natAbs}
 use lib.Ieee.{Float}
-use mir.Syntax.{w32, w64}
-use mir.Val.{Fits, toZ, ofZ}
+use mir.Syntax.{w32}
+use mir.Val.{toZ, ofZ}
 use Rattle.limits.specs.Refusals.{refuse, firstRefusal}
 use Rattle.limits.specs.Tests.{heightTest}
 use Rattle.table.specs.Table.{cleared, isTable, refusedTable}
@@ -17,7 +17,6 @@ use Rattle.independence.specs.Deck.{Deck, Line, card, malformed, Entry, countTe
 use Rattle.independence.specs.Contracts.{EntryDone}
 use Rattle.independence.proofs.Rows.{cleared-length}
 use Rattle.independence.proofs.Verdicts.{accepted-passes, malformed-refused}
-use Rattle.deck.specs.declared.fields.Fields.{Fields}
 use Rattle.deck.specs.Card.{cardOf}
 use Rattle.deck.specs.Antenna.{theAntenna}
 use Rattle.deck.specs.Run.{countLimit}

@@ -18,7 +18,7 @@ use Rattle.output.specs.Hundredths.{hundredthsField}
 use Rattle.output.proofs.Field.{field-length}
 use Rattle.output.proofs.Printed.{hundredths-field-length}
 use Rattle.listing.specs.Appended.{Appended}
-use Rattle.listing.specs.Text.{lineFeed, headingText, rowText, rowsText, countsText}
+use Rattle.listing.specs.Text.{lineFeed, headingText, rowText, rowsText}
 use Rattle.listing.proofs.Buffer.{then, same, long}
 
 -- ---- an integer as it is handed on
@@ -64,13 +64,6 @@ pub rows-length : (t : List Float) (first n : ℕ) → length (rowsText t first 
 unfolding rowsText
 rows-length t first zero = refl
 rows-length t first (suc n) = omega (arith, rows-length t first n, length-append (rowsText t first n) (rowText t (first + n)), row-length t (first + n))
-
-pub counts-length : (accepted refused : ℕ) → length (countsText accepted refused) ≡ 15
-unfolding countsText
-counts-length accepted refused =
-    let a = integerField (pos accepted) 7 in
-    let b = integerField (pos refused) 7 in
-    omega (arith, length-append (a ++ b) lineFeed, length-append a b, field-length (pos accepted) 7, field-length (pos refused) 7)
 
 -- ---- the rows in turn: n of k are written
 pub record Rows (t : List Float) (first k a : ℕ) (d e : List ℕ) (b n : ℕ) : Type 0 where

@@ -2,26 +2,23 @@
 use mathlib.Core.Path.{_≡_, refl, sym, ap, subst, _∙_}
 use mathlib.Core.Bool.{Bool, true, false, not, cond}
 use mathlib.Core.List.{List, [], _∷_, _++_}
-use Prim.Native.Nat.{ℕ, zero, suc, _+_, _≤_, _<_}
+use Prim.Native.Nat.{ℕ, _+_, _≤_, _<_}
 use native.Mathlib.Omega.{arith}
 use borrow.Author.Tests.{ltb-true, ltb-false}
 use lib.Dec.{ltb}
 use lib.Ieee.{Float}
 use lib.ListN.{length, take, drop, take-append-drop}
 use lib.Seq.{length-take-le, take-all}
-use Rattle.independence.specs.Deck.{Deck}
-use Rattle.deck.specs.Run.{stateOf}
 use Rattle.listing.specs.declared.session.Session as S
-use Rattle.listing.specs.declared.session.Stepped as D
 use Rattle.listing.specs.declared.gathering.Gathered as G
 use Rattle.listing.specs.declared.card.Listed as C
 use Rattle.listing.specs.Appended.{Appended, overwritten}
 use Rattle.listing.specs.Text.{countsText}
-use Rattle.listing.specs.Session.{State, stateIn, heldIn, Gathered, gathered, lineText, afterLine, stepBy, stepOf, lastText, endBy, counts, finishText, finishTable, isReady}
+use Rattle.listing.specs.Session.{State, stateIn, heldIn, Gathered, gathered, lineText, afterLine, stepOf, lastText, endBy, counts, finishText, finishTable, isReady}
 use Rattle.listing.specs.Gathering.{GatherDone}
 use Rattle.listing.specs.Card.{LineListed}
 use Rattle.listing.specs.Steps.{StepDone, FinishDone}
-use Rattle.listing.proofs.Buffer.{unchanged, same, then, long}
+use Rattle.listing.proofs.Buffer.{unchanged, same, then}
 use Rattle.listing.proofs.Ready.{true-of, false-of, tested}
 
 -- the buffer has no more than 120 bytes

@@ -14,13 +14,12 @@ use Rattle.independence.specs.Deck.{Deck, Entry, fresh, outcomeOn, deckAfter}
 use Rattle.deck.specs.Antenna.{theAntenna}
 use Rattle.deck.specs.Run.{countLimit, stateOf}
 use Rattle.card_line.specs.declared.line.Line as L
-use Rattle.card_line.specs.Line.{lineOf, malformedLine}
 use Rattle.card_line.proofs.Laws.{wrong-length}
 use Rattle.listing.specs.declared.session.Session as S
 use Rattle.listing.specs.Lines.{linesOf, onFirst}
-use Rattle.listing.specs.Text.{headingText, countsText}
+use Rattle.listing.specs.Text.{headingText}
 use Rattle.listing.specs.Listing.{lineIn, typeOf, rowsBy, entryOf, cardText, textsOf, listing}
-use Rattle.listing.specs.Session.{State, stateIn, isReady, grown, Gathered, gathered, counted, lineText, afterLine, Step, holding, stepBy, stepOf, endBy, lastText, counts, finishText, ended, joined, remaining}
+use Rattle.listing.specs.Session.{State, stateIn, isReady, grown, Gathered, gathered, counted, lineText, afterLine, stepBy, stepOf, endBy, lastText, counts, finishText, ended, joined, remaining}
 use Rattle.listing.specs.Appended.{overwritten}
 use Rattle.listing.specs.Calls.{part, CallsDone, finished, stepped}
 use Rattle.listing.proofs.Cards.{heading-beyond}

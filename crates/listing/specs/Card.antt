@@ -5,7 +5,7 @@ use mathlib.Core.Bool.{true}
 use mathlib.Core.List.{List}
 use lib.Ieee.{Float}
 use Rattle.table.specs.Table.{cleared}
-use Rattle.independence.specs.Deck.{Deck, Entry}
+use Rattle.independence.specs.Deck.{Deck}
 use Rattle.independence.specs.Contracts.{EntryDone}
 use Rattle.deck.specs.Fields.{fieldsRefusal}
 use Rattle.deck.specs.Antenna.{theAntenna}
@@ -15,7 +15,7 @@ use Rattle.listing.specs.declared.card.Listed as D
 use Rattle.listing.specs.declared.session.Session as S
 use Rattle.listing.specs.Appended.{Appended}
 use Rattle.listing.specs.Listing.{lineIn}
-use Rattle.listing.specs.Session.{State, stateIn, lineText, afterLine}
+use Rattle.listing.specs.Session.{stateIn, lineText, afterLine}
 
 -- a line on the deck d
 abbrev pub LineRun : Deck → L.Line → List Float → ℕ → Deck → Type 0

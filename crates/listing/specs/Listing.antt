@@ -1,14 +1,12 @@
 -- Document 01 section 10: the whole listing, from the bytes of the input to the bytes of the output. Definitions only.
 use Prim.Native.Nat.{ℕ, zero, suc}
-use mathlib.Core.Bool.{true, false, cond}
+use mathlib.Core.Bool.{cond}
 use mathlib.Core.List.{List, [], _∷_, _++_}
 use lib.IntN.{ℤ, pos}
 use lib.Ieee.{Float}
 use Rattle.table.specs.Table.{cleared}
-use Rattle.independence.specs.Antenna.{Antenna}
 use Rattle.independence.specs.Filling.{rowsOf}
 use Rattle.independence.specs.Deck.{Deck, Line, card, malformed, Entry, Outcome, fresh, outcomeOn, deckAfter}
-use Rattle.deck.specs.declared.fields.Fields.{Fields}
 use Rattle.deck.specs.Antenna.{theAntenna}
 use Rattle.deck.specs.Run.{countLimit}
 use Rattle.card_line.specs.declared.line.Line as L

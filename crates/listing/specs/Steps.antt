@@ -8,7 +8,7 @@ use lib.ListN.{length, drop}
 use Rattle.listing.specs.declared.session.Session as S
 use Rattle.listing.specs.declared.session.Stepped as D
 use Rattle.listing.specs.Appended.{overwritten}
-use Rattle.listing.specs.Session.{State, Step, stateIn, stepOf, finishText, finishTable, isReady}
+use Rattle.listing.specs.Session.{stateIn, stepOf, finishText, finishTable, isReady}
 
 -- The buffer `line`, the table and `out` became line′, table′ and out′: the text stands in `out` from `at` on, and nothing else in it moved
 pub record StepDone (s : S.Session) (line piece : List ℕ) (table : List Float) (out : List ℕ) (at : ℕ) (line′ : List ℕ) (table′ : List Float) (out′ : List ℕ) (r : D.Stepped) : Type 0 where

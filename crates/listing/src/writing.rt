@@ -2,7 +2,7 @@
 ghost use mathlib.Core.Path.{_≡_};
 ghost use Prim.Native.Nat.{_+_, _≤_};
 ghost use lib.ListN.{length};
-ghost use Rattle.table.specs.Table.{tableLength};
+ghost use Rattle.table.specs.Table.{rowCount, tableLength};
 ghost use Rattle.output.specs.Field.{integerField};
 ghost use Rattle.output.specs.Hundredths.{hundredthsField};
 ghost use Rattle.listing.specs.Appended.{Appended};
@@ -47,7 +47,7 @@ pub(crate) fn heading(place: u32, kop: i32, refusal: u32, out: &mut [u8], at: us
 }
 
 fn row(table: &[f32], m: usize, out: &mut [u8], at: usize) -> usize
-    requires { ⌜ (length (now table) ≡ tableLength) × (1 ≤ m) × (m ≤ 30) × (at + 18 ≤ length (now out)) ⌝ }
+    requires { ⌜ (length (now table) ≡ tableLength) × (1 ≤ m) × (m ≤ rowCount) × (at + 18 ≤ length (now out)) ⌝ }
     ensures { λ r. ⌜ Appended (now (out .entry)) at (rowText (now (table .entry)) m) (now (out .exit)) r ⌝ }
 {
     let efficiency = table[GAINS + (m - 1)];

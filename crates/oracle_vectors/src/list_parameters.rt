@@ -1,4 +1,4 @@
-// The list `parameters`: `ioninit`, a length's two roles and the curtain's threshold.
+// The list `parameters`: `ioninit`, a length's three roles and the curtain's threshold.
 use crate::line::Line;
 use crate::line::float;
 use crate::line::is;

@@ -99,5 +99,5 @@ fn main() {
     replay_file(List::Output, b"output", 57);
     replay_file(List::Gains, b"gains", 158);
     replay_file(List::Antenna, b"antenna", 92);
-    replay_file(List::Deck, b"deck", 830);
+    replay_file(List::Deck, b"deck", MOST_BYTES);
 }

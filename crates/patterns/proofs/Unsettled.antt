@@ -23,8 +23,7 @@ use Rattle.inverted_l.specs.InvertedL.{invertedLNumber}
 use Rattle.inverted_l.proofs.Refusal.{inverted-l-number}
 use Rattle.inverted_l.specs.declared.inverted_l.InvertedLRow.{InvertedLRow}
 use Rattle.inverted_l.specs.declared.inverted_l.InvertedLRow.the-variants as L
-use Rattle.patterns.specs.Pattern.{settledAt, ofDipole, ofMonopole, ofInvertedL, dipoleOf, monopoleFor, invertedLOf, patternOf}
-use Rattle.patterns.specs.Pattern.{patternSettles, patternNumber, patternValue}
+use Rattle.patterns.specs.Pattern.{settledAt, ofDipole, ofMonopole, ofInvertedL, dipoleOf, monopoleFor, invertedLOf, patternOf, patternSettles, patternNumber, patternValue}
 use Rattle.patterns.specs.declared.antenna.Antenna.{Antenna}
 use Rattle.patterns.specs.declared.pattern.Pattern.the-variants as P
 use Rattle.patterns.specs.declared.pattern.PatternAnswer.{PatternAnswer}

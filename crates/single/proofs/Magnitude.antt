@@ -1,12 +1,12 @@
 -- How large a float can be: magnitudes through `mul`, `add` and `sub` at binary32, and what they give a cast to an integer. Assumes nothing.
 use mathlib.Core.Path.{_≡_, sym, ap, subst, _∙_}
-use mathlib.Core.Bool.{Bool, true, false, cond, _&&_, _||_, Bool·beq}
+use mathlib.Core.Bool.{Bool, true, false, cond, not, _&&_, _||_, Bool·beq}
 use Prim.Native.Nat.{ℕ, zero, suc, _+_, _-_, _*_, _<_, _≤_, _^_}
 use native.Mathlib.Omega.{arith}
 use native.Mathlib.Nat.{le-trans, le-of-eq, le-refl, mul-le-mul, mul-comm, mul-assoc, mul-pos, one-mul, mul-one, add-mul, mul-mul-mul-comm}
 use lib.Dec.{T, ltb, eqb, ltb→lt, lt→ltb, eqb→eq, lit≤}
 use lib.IntN.{ℤ, pos}
-use lib.Ieee.{Float, nan, inf, fin, binary32, up, down, odd, units, round, unlike, neg, sum, add, sub, mul, lt, eq, le}
+use lib.Ieee.{Float, nan, inf, fin, binary32, up, down, odd, units, round, unlike, neg, sum, add, sub, mul, lt, eq, le, isNan}
 use lib.Ieee.Fits.{down-pos, round-is}
 use lib.Ieee.Order.{round-mono}
 
@@ -15,6 +15,12 @@ abbrev pub Mag : ℕ → Float → Type 0
 Mag b nan = ⊥
 Mag b (inf s) = ⊥
 Mag b (fin s m e) = m * up e ≤ b * down e
+
+pub mag-no-nan : (b : ℕ) (x : Float) → Mag b x → T (not (isNan x))
+unfolding isNan
+mag-no-nan b nan m = absurd m
+mag-no-nan b (inf s) m = absurd m
+mag-no-nan b (fin s n e) m = tt
 
 -- the powers of two that are f32s in the one way: at a numeral k this is refl, under `unfolding round`
 abbrev pub Pow : ℕ → Type 0

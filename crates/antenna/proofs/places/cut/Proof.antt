@@ -1,5 +1,5 @@
 use mathlib.Core.Path.{_≡_, sym, subst, ap, _∙_}
-use mathlib.Core.Bool.{true, false, not}
+use mathlib.Core.Bool.{true, false}
 use Prim.Native.Nat.{ℕ, _+_, _-_, _*_, _/_, _%_, _^_, _≤_, _<_, min}
 use native.Mathlib.Nat.{le-trans}
 use native.Mathlib.Omega.{arith}
@@ -7,24 +7,18 @@ use borrow.Author.Needs.{needs}
 use borrow.Author.Tests.{lt-leb}
 use lib.Dec.{T, lit≤}
 use lib.IntN.{pos}
-use lib.Ieee.{Float, nan, inf, fin, binary32, up, down, fits, ofBits, toBits, toSigned, isNan}
+use lib.Ieee.{Float, nan, inf, fin, binary32, up, down, fits, toBits, toSigned}
 use lib.Ieee.Bits.{ofBits-toBits}
 use mir.Syntax.{w32}
 use mir.ValLaws.{toZ-pos}
 use Rattle.single.specs.Single.{isNegative}
-use Rattle.single.proofs.Magnitude.{Mag}
+use Rattle.single.proofs.Magnitude.{Mag, mag-no-nan}
 use Rattle.single.proofs.Sign.{sign-bit}
 use Rattle.elementary.specs.Basic.{cutToward}
 use Rattle.basic.specs.WholePart.{wholePart}
 use Rattle.basic.proofs.WholePart.{whole-below, field-below, whole-digits}
 use Rattle.antenna.proofs.places.cut.Statement.{statement}
 use Rattle.antenna.proofs.places.cut.Tie as tie
-
-number : (x : Float) → Mag (2 ^ 21) x → T (not (isNan x))
-unfolding isNan
-number nan m = absurd m
-number (inf s) m = absurd m
-number (fin s n e) m = tt
 
 min-left : (a b : ℕ) → a ≤ b → min a b ≡ a
 min-left a b h = omega arith
@@ -51,10 +45,10 @@ module _ (x : Float) (m : Mag (2 ^ 21) x) (f : T (fits binary32 x)) (low : 10653
   small = subst (λ (k : ℕ). k ≤ 2 ^ 21) (sym digits) (whole-below x (2 ^ 21) m)
 
   whole : pos ((8388608 + b % 8388608) / 2 ^ (150 - b / 8388608)) ≡ cutToward x
-  whole = ap pos digits ∙ plus x m (sym (sign-bit x f (number x m)) ∙ lt-leb 2147483648 b high)
+  whole = ap pos digits ∙ plus x m (sym (sign-bit x f (mag-no-nan (2 ^ 21) x m)) ∙ lt-leb 2147483648 b high)
 
 float-to-bits-b : tie.Need-float-to-bits-b
-float-to-bits-b c = number (c .args .x) (c .pre)
+float-to-bits-b c = mag-no-nan (2 ^ 21) (c .args .x) (c .pre)
 
 sub-result : tie.Need-sub-result
 sub-result c = let s = c .before .before in field (s .args .x) (s .pre) (subst T (sym (s .good .0 .1)) tt) (c .before .if1 .taken) (c .if2 .taken)

@@ -1,12 +1,11 @@
 use mathlib.Core.Path.{_≡_, sym, _∙_, ap, subst}
-use mathlib.Core.Bool.{not}
 use Prim.Native.Nat.{ℕ, _%_, _≤_, _^_}
 use native.Mathlib.Omega.{arith}
-use lib.Dec.{T, lit≤}
-use lib.Ieee.{Float, nan, inf, fin, binary32, ofBits, toBits, isNan}
+use lib.Dec.{lit≤}
+use lib.Ieee.{binary32, ofBits, toBits}
 use lib.Ieee.Bits.{ofBits-toBits}
 use Rattle.single.proofs.Booleans.{holds}
-use Rattle.single.proofs.Magnitude.{Mag}
+use Rattle.single.proofs.Magnitude.{mag-no-nan}
 use Rattle.basic.specs.Basic.{absolute}
 use Rattle.basic.proofs.Absolute.{bits-absolute}
 use Rattle.basic.proofs.WholePart.{absolute-mag, absolute-whole, whole-below, field-below, whole-none, whole-digits}
@@ -14,18 +13,12 @@ use borrow.Author.Needs.{needs}
 use Rattle.trigonometric.proofs.trigonometric.whole_part.Statement.{statement}
 use Rattle.trigonometric.proofs.trigonometric.whole_part.Tie as tie
 
-mag-number : (x : Float) → Mag (2 ^ 21) x → T (not (isNan x))
-unfolding isNan
-mag-number nan m = absurd m
-mag-number (inf s) m = absurd m
-mag-number (fin s n e) m = tt
-
 -- the pattern without its sign bit is the magnitude's
 pattern : (c : tie.Start) → ofBits binary32 (toBits binary32 (c .args .t) % 2147483648) ≡ absolute (c .args .t)
 pattern c = bits-absolute (toBits binary32 (c .args .t)) ∙ ap absolute (ofBits-toBits binary32 (c .args .t) (holds (c .good .0 .1)))
 
 float-to-bits-b : tie.Need-float-to-bits-b
-float-to-bits-b c = mag-number (c .args .t) (c .pre)
+float-to-bits-b c = mag-no-nan (2 ^ 21) (c .args .t) (c .pre)
 
 sub-result : tie.Need-sub-result
 sub-result c = let t = c .before .args .t in field-below (absolute t) (toBits binary32 t % 2147483648) (omega arith) (pattern (c .before)) (absolute-mag t (2 ^ 21) (c .before .pre))
