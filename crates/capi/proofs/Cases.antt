@@ -29,18 +29,18 @@ module _ (table : List ℕ) (fmc delta : Float) (answer : List ℕ) where
   unfolding lookupResult lookupAnswer
   lookup-unwritten h = unwritten answer h _ _
 
-  module _ (h : length answer ≡ answerLength) (r : Lookup) (n : lookupNumber r ≡ gainLookupNumber (tableOf table) fmc delta) (w : lookupValues r ≡ gainLookupValues (tableOf table) fmc delta) where
-    -- the number and the bytes by the answer's case
-    pub lookup-written : (k : ℕ) (out : List ℕ) → k ≡ lookupNumber r → out ≡ answerBytes (lookupValues r .gain) (lookupValues r .efficiency) (num 0 1) → (k ≡ lookupResult table fmc delta answer) × (out ≡ lookupAnswer table fmc delta answer)
-    unfolding lookupResult lookupAnswer
-    lookup-written k out e o = written answer h k _ out _ (e ∙ n) (rw w at o)
+  -- the number and the bytes by the answer's case
+  pub lookup-written : length answer ≡ answerLength → (r : Lookup) → (lookupNumber r ≡ gainLookupNumber (tableOf table) fmc delta) × (lookupValues r ≡ gainLookupValues (tableOf table) fmc delta)
+      → (k : ℕ) (out : List ℕ) → k ≡ lookupNumber r → out ≡ answerBytes (lookupValues r .gain) (lookupValues r .efficiency) (num 0 1) → (k ≡ lookupResult table fmc delta answer) × (out ≡ lookupAnswer table fmc delta answer)
+  unfolding lookupResult lookupAnswer
+  lookup-written h r (n, w) k out e o = written answer h k _ out _ (e ∙ n) (rw w at o)
 
 module _ (freq elev : Float) (answer : List ℕ) where
   pub cone-unwritten : length answer ≢ answerLength → (_≡_ {A = ℕ} 7 (coneResult freq elev answer)) × (answer ≡ coneAnswer freq elev answer)
   unfolding coneResult coneAnswer
   cone-unwritten h = unwritten answer h _ _
 
-  module _ (h : length answer ≡ answerLength) (r : ConeGain) (n : coneGainNumber r ≡ invconNumber freq elev) (w : coneGainValue r ≡ invconValue freq elev) where
-    pub cone-written : (k : ℕ) (out : List ℕ) → k ≡ coneGainNumber r → out ≡ answerBytes (coneGainValue r) (num 0 1) (num 0 1) → (k ≡ coneResult freq elev answer) × (out ≡ coneAnswer freq elev answer)
-    unfolding coneResult coneAnswer
-    cone-written k out e o = written answer h k _ out _ (e ∙ n) (rw w at o)
+  pub cone-written : length answer ≡ answerLength → (r : ConeGain) → (coneGainNumber r ≡ invconNumber freq elev) × (coneGainValue r ≡ invconValue freq elev)
+      → (k : ℕ) (out : List ℕ) → k ≡ coneGainNumber r → out ≡ answerBytes (coneGainValue r) (num 0 1) (num 0 1) → (k ≡ coneResult freq elev answer) × (out ≡ coneAnswer freq elev answer)
+  unfolding coneResult coneAnswer
+  cone-written h r (n, w) k out e o = written answer h k _ out _ (e ∙ n) (rw w at o)

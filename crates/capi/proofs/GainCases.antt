@@ -1,6 +1,6 @@
 -- The gain entry: from the answer's length and the call's case to the result and the bytes that are left. Assumes nothing.
 use Prim.Native.Nat.{ℕ}
-use mathlib.Core.Path.{_≡_, refl, _∙_}
+use mathlib.Core.Path.{_≡_, refl, sym, ap, _∙_}
 use mathlib.Core.Bool.{Bool, true, false, cond}
 use mathlib.Core.Logic.{_≢_}
 use mathlib.Core.List.{List}
@@ -10,15 +10,13 @@ use lib.IntN.{ℤ}
 use lib.ListN.{length}
 use lib.Ieee.{Float}
 use lib.Ieee.Scale.{finite}
-use Rattle.single.specs.Single.{num}
 use Rattle.limits.specs.Refusals.{firstRefusal}
 use Rattle.parameters.specs.Model.{modelOf}
 use Rattle.parameters.specs.declared.model.Model.{Model}
 use Rattle.parameters.specs.declared.params.IoncapParams.{IoncapParams}
 use Rattle.ioncap.specs.Gain.{answered as workedAnswer, callRefusal, callWork, gainOf, gainNumber, gainValue, efficiencyValue, heightLeft}
-use Rattle.ioncap.specs.declared.gain.Answer.{Answer}
 use Rattle.ioncap.specs.declared.gain.Gain.{Gain}
-use Rattle.ioncap.specs.declared.gain.Gain.the-variants.{Accepted, Refused}
+use Rattle.ioncap.specs.declared.gain.Gain.the-variants.{Refused}
 use Rattle.ioncap.specs.declared.gain.GainCall.{GainCall}
 use Rattle.capi.specs.Answer.{answerLength, answerBytes, answered}
 use Rattle.limits.specs.Tests.{lengthRefusal}
@@ -50,11 +48,7 @@ module _ (call : GainCall) (height : Float) (answer : List ℕ) where
       go true r g = refl
       go false r g = refl
 
-  module _ (h : length answer ≡ answerLength) (g : Gain) (e : g ≡ gainOf call height) (out : List ℕ) where
-    pub gain-accepted : (v : Answer) → g ≡ Accepted v → out ≡ answerBytes (v .gain) (v .efficiency) (v .height) → (_≡_ {A = ℕ} 0 (gainResult call height answer)) × (out ≡ gainAnswer call height answer)
-    unfolding gainNumber gainValue efficiencyValue heightLeft gainAnswer answered
-    gain-accepted v a o = (rw (own-number h, ← e, a), rw (eq-eqb _ _ h, ← e, a) o)
-
-    pub gain-refused : (k : ℕ) → g ≡ Refused k → out ≡ answerBytes (num 0 1) (num 0 1) height → (k ≡ gainResult call height answer) × (out ≡ gainAnswer call height answer)
-    unfolding gainNumber gainValue efficiencyValue heightLeft gainAnswer answered
-    gain-refused k a o = (rw (own-number h, ← e, a), rw (eq-eqb _ _ h, ← e, a) o)
+  -- the number and the bytes by the answer's case
+  pub gain-written : length answer ≡ answerLength → (g : Gain) → g ≡ gainOf call height → (k : ℕ) (out : List ℕ) → k ≡ gainNumber g → out ≡ answerBytes (gainValue g) (efficiencyValue g) (heightLeft g height) → (k ≡ gainResult call height answer) × (out ≡ gainAnswer call height answer)
+  unfolding gainAnswer answered
+  gain-written h g e k out n o = (n ∙ ap gainNumber e ∙ sym (own-number h), rw (eq-eqb _ _ h, ← e) o)

@@ -7,7 +7,10 @@ use lib.Dec.{T, eqb→eq}
 use lib.IntN.{ℤ, pos, negsuc}
 use native.Mathlib.Omega.{arith}
 use lib.Ieee.{Float}
+use Rattle.parameters.specs.Length.{legOf, heightOf}
 use Rattle.parameters.specs.Params.{isType}
+use Rattle.parameters.specs.declared.length.HeightInWaves.{HeightInWaves}
+use Rattle.parameters.specs.declared.length.LegInWaves.{LegInWaves}
 use Rattle.single.specs.Answer.{IsAnswer}
 use Rattle.integrals.specs.Settled.{settledNumber}
 use Rattle.single.proofs.Answer.{answers}
@@ -23,7 +26,7 @@ use Rattle.inverted_l.specs.InvertedL.{invertedLNumber}
 use Rattle.inverted_l.proofs.Refusal.{inverted-l-number}
 use Rattle.inverted_l.specs.declared.inverted_l.InvertedLRow.{InvertedLRow}
 use Rattle.inverted_l.specs.declared.inverted_l.InvertedLRow.the-variants as L
-use Rattle.patterns.specs.Pattern.{settledAt, ofDipole, ofMonopole, ofInvertedL, dipoleOf, monopoleFor, invertedLOf, patternOf, patternSettles, patternNumber, patternValue}
+use Rattle.patterns.specs.Pattern.{settledAt, ofDipole, ofMonopole, ofInvertedL, dipoleOf, monopoleFor, invertedLOf, patternBy, patternOf, patternSettles, patternNumber, patternValue}
 use Rattle.patterns.specs.declared.antenna.Antenna.{Antenna}
 use Rattle.patterns.specs.declared.pattern.Pattern.the-variants as P
 use Rattle.patterns.specs.declared.pattern.PatternAnswer.{PatternAnswer}
@@ -82,3 +85,9 @@ module _ (antenna : Antenna) (wave : Float) where
   pub pattern-answers : (r : PatternAnswer) → r ≡ patternOf antenna wave
       → IsAnswer patternNumber patternValue P.Other 11 (patternOf antenna wave) (patternSettles antenna wave) r
   pattern-answers = answers patternNumber patternValue P.Other 11 (omega arith) cases (patternOf antenna wave) (patternSettles antenna wave) pattern-number
+
+  -- of a type that is known, by its leg and height in wavelengths
+  pub type-answers : {k : ℤ} (leg : LegInWaves) (height : HeightInWaves) (r : PatternAnswer) → antenna .kop ≡ k → leg ≡ legOf (antenna .leg) wave → height ≡ heightOf (antenna .height) wave → r ≡ patternBy k antenna wave leg height
+      → IsAnswer patternNumber patternValue P.Other 11 (patternOf antenna wave) (patternSettles antenna wave) r
+  unfolding patternOf
+  type-answers leg height r k l h e = pattern-answers r (e ∙ (λ i. patternBy (sym k i) antenna wave (l i) (h i)))

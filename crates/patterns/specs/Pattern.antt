@@ -1,11 +1,14 @@
 -- Document 01 section 4: the choice of pattern by type, as the match of `iongain2`. Definitions only.
 use Prim.Native.Nat.{ℕ}
 use mathlib.Core.Bool.{Bool, true, cond, _||_}
+use lib.IntN.{ℤ}
 use lib.ListN.{getD}
 use lib.Ieee.{Float, nan}
 use Rattle.single.specs.Single.{num}
 use Rattle.parameters.specs.Params.{isType}
 use Rattle.parameters.specs.Length.{legOf, heightOf}
+use Rattle.parameters.specs.declared.length.HeightInWaves.{HeightInWaves}
+use Rattle.parameters.specs.declared.length.LegInWaves.{LegInWaves}
 use Rattle.parameters.specs.declared.length.Length.{Length}
 use Rattle.reflection.specs.declared.angles.Azimuth.{Azimuth}
 use Rattle.reflection.specs.declared.angles.Elevation.{Elevation}
@@ -59,15 +62,12 @@ monopoleFor leg wave = ofMonopole (monopoleRow leg wave)
 unfoldable pub invertedLOf : Float → Float → PatternAnswer
 invertedLOf fac hwave = ofInvertedL (invertedLRow fac hwave)
 
--- what a row at this wavelength takes, by type
-unfoldable pub patternOf : Antenna → Float → PatternAnswer
-patternOf antenna wave =
-    let kop = antenna .kop in
+-- what a row at this wavelength takes, by type, of its leg and height in wavelengths
+abbrev pub patternBy : ℤ → Antenna → Float → LegInWaves → HeightInWaves → PatternAnswer
+patternBy kop antenna wave leg height =
     let phi = antenna .params .and in
     let aex = antenna .params .aex in
     let azimuth = antenna .azimuth in
-    let leg = legOf (antenna .leg) wave in
-    let height = heightOf (antenna .height) wave in
     let fac = leg .fac in
     let hwave = height .hwave in
     cond (isType kop 1) (settledAt (P.Rhombic (legsOf phi azimuth fac hwave)))
@@ -79,6 +79,9 @@ patternOf antenna wave =
     (cond (isType kop 3 || isType kop 4) (dipoleOf fac hwave)
     (cond (isType kop 2 || isType kop 5) (monopoleFor (antenna .leg) wave)
     (settledAt P.Other))))))))
+
+unfoldable pub patternOf : Antenna → Float → PatternAnswer
+patternOf antenna wave = patternBy (antenna .kop) antenna wave (legOf (antenna .leg) wave) (heightOf (antenna .height) wave)
 
 -- types 3 and 4, 2 and 5, and 8 take integrals; any other settles
 unfoldable pub patternSettles : Antenna → Float → Bool

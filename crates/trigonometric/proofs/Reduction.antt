@@ -7,7 +7,7 @@ use Prim.Native.Nat.{ℕ, zero, suc, _+_, _/_, _%_, _<_, _^_}
 use native.Mathlib.Omega.{arith}
 use lib.ListN.{getD}
 use lib.Dec.{T, lit≤}
-use lib.IntN.{pos}
+use lib.IntN.{ℤ, pos, negsuc}
 use lib.Ieee.{Float, nan, fin, binary32, round, neg, div, ofBits, ofInt, lt, le}
 use lib.Ieee.Fits.{and-l, and-r}
 use Rattle.single.proofs.Booleans.{holds}
@@ -15,8 +15,8 @@ use Rattle.single.specs.Single.{_⊞_, _⊟_, _⊠_, num, signed}
 use Rattle.single.proofs.Magnitude.{Mag, mag-of, mul-mag, add-mag, sub-mag}
 use Rattle.basic.specs.WholePart.{wholePart}
 use Rattle.basic.proofs.WholePart.{cut-parts}
-use Rattle.trigonometric.specs.Trigonometric.{twoOverPi, inRange, turnsArgument, turns, rest, reduced, quadrantOf, byQuadrant, sinePart, cosinePart, sineAt, cosineAt, sine, cosine}
-use Rattle.trigonometric.specs.Turns.{turnsFloat, quadrantBy}
+use Rattle.trigonometric.specs.Trigonometric.{twoOverPi, inRange, turnsArgument, turns, rest, reduced, quadrantOf, byQuadrant, sinePart, cosinePart, sineAt, cosineAt, ofReduction, sine, cosine}
+use Rattle.trigonometric.specs.Turns.{turnsFloat, quadrantBy, sineAhead}
 
 quadrant-parts : (s : Bool) (k : ℕ) → quadrantBy s k ≡ quadrantOf (signed s k)
 unfolding quadrantBy
@@ -24,10 +24,9 @@ quadrant-parts false k = refl
 quadrant-parts true zero = refl
 quadrant-parts true (suc k) = omega arith
 
-quadrant-below : (s : Bool) (k : ℕ) → quadrantBy s k < 4
-unfolding quadrantBy
-quadrant-below false k = omega arith
-quadrant-below true k = omega arith
+quadrant-below : (n : ℤ) → quadrantOf n < 4
+quadrant-below (pos k) = omega arith
+quadrant-below (negsuc k) = omega arith
 
 module _ (x : Float) (h : inRange x ≡ true) where
   range-mag : Mag (2 ^ 20) x
@@ -58,19 +57,20 @@ module _ (x : Float) (h : inRange x ≡ true) where
   unfolding turnsFloat reduced
   reduction-is t k n r q et ek en er eq =
       let s : Bool = lt t (ofBits binary32 0) in
-      let is : signed s k ≡ turns x = ap (signed s) (ek ∙ ap wholePart et) ∙ ap (λ (u : Float). signed (lt u (ofBits binary32 0)) (wholePart (turnsArgument x))) et ∙ sym turns-parts in (
-        eq ∙ quadrant-parts s k ∙ ap quadrantOf is,
-        er ∙ ap (rest x) (en ∙ ap (ofInt binary32) is),
-        subst (λ (m : ℕ). m < 4) (sym eq) (quadrant-below s k),
-      )
+      let is : signed s k ≡ turns x = ap (signed s) (ek ∙ ap wholePart et) ∙ ap (λ (u : Float). signed (lt u (ofBits binary32 0)) (wholePart (turnsArgument x))) et ∙ sym turns-parts in
+      let at : q ≡ quadrantOf (turns x) = eq ∙ quadrant-parts s k ∙ ap quadrantOf is in
+      (at, er ∙ ap (rest x) (en ∙ ap (ofInt binary32) is), subst (λ (m : ℕ). m < 4) (sym at) (quadrant-below (turns x)))
 
 -- ---- the choice by quadrant, and what it makes
+below-4 : (P : ℕ → Type 0) → P 0 → P 1 → P 2 → P 3 → (q : ℕ) → q < 4 → P q
+below-4 P a b c d zero h = a
+below-4 P a b c d (suc zero) h = b
+below-4 P a b c d (suc (suc zero)) h = c
+below-4 P a b c d (suc (suc (suc zero))) h = d
+below-4 P a b c d (suc (suc (suc (suc q)))) h = absurd (let z : suc (suc (suc (suc q))) < 4 = h in omega arith)
+
 pub by-quadrant : (q : ℕ) (a b c d : Float) → q < 4 → getD (a ∷ b ∷ c ∷ d ∷ []) q nan ≡ byQuadrant q a b c d
-by-quadrant zero a b c d h = refl
-by-quadrant (suc zero) a b c d h = refl
-by-quadrant (suc (suc zero)) a b c d h = refl
-by-quadrant (suc (suc (suc zero))) a b c d h = refl
-by-quadrant (suc (suc (suc (suc q)))) a b c d h = absurd (let z : suc (suc (suc (suc q))) < 4 = h in omega arith)
+by-quadrant q a b c d = below-4 (λ q. getD (a ∷ b ∷ c ∷ d ∷ []) q nan ≡ byQuadrant q a b c d) refl refl refl refl q
 
 -- one part, and its sign
 abbrev pair : Float → ℕ → Float
@@ -78,43 +78,32 @@ pair v k = getD (v ∷ neg v ∷ []) k nan
 
 pub sine-even : (q : ℕ) (s c v : Float) → q < 4 → q % 2 ≡ 0 → v ≡ s → pair v (q / 2) ≡ sineAt q s c
 unfolding sineAt
-sine-even zero s c v l h e = e
-sine-even (suc zero) s c v l h e = absurd (let z : 1 ≡ 0 = h in omega arith)
-sine-even (suc (suc zero)) s c v l h e = ap neg e
-sine-even (suc (suc (suc zero))) s c v l h e = absurd (let z : 1 ≡ 0 = h in omega arith)
-sine-even (suc (suc (suc (suc q)))) s c v l h e = absurd (let z : suc (suc (suc (suc q))) < 4 = l in omega arith)
+sine-even q s c v l h e = below-4 (λ q. q % 2 ≡ 0 → pair v (q / 2) ≡ sineAt q s c) (λ h. e) (λ h. absurd (let z : 1 ≡ 0 = h in omega arith)) (λ h. ap neg e) (λ h. absurd (let z : 1 ≡ 0 = h in omega arith)) q l h
 
 pub sine-odd : (q : ℕ) (s c v : Float) → q < 4 → q % 2 ≢ 0 → v ≡ c → pair v (q / 2) ≡ sineAt q s c
 unfolding sineAt
-sine-odd zero s c v l h e = absurd (h refl)
-sine-odd (suc zero) s c v l h e = e
-sine-odd (suc (suc zero)) s c v l h e = absurd (h refl)
-sine-odd (suc (suc (suc zero))) s c v l h e = ap neg e
-sine-odd (suc (suc (suc (suc q)))) s c v l h e = absurd (let z : suc (suc (suc (suc q))) < 4 = l in omega arith)
+sine-odd q s c v l h e = below-4 (λ q. q % 2 ≢ 0 → pair v (q / 2) ≡ sineAt q s c) (λ h. absurd (h refl)) (λ h. e) (λ h. absurd (h refl)) (λ h. ap neg e) q l h
 
 -- the cosine is the sine a quarter turn on
 pub ahead : (q : ℕ) (s c : Float) → q < 4 → cosineAt q s c ≡ sineAt ((q + 1) % 4) s c
 unfolding sineAt cosineAt
-ahead zero s c l = refl
-ahead (suc zero) s c l = refl
-ahead (suc (suc zero)) s c l = refl
-ahead (suc (suc (suc zero))) s c l = refl
-ahead (suc (suc (suc (suc q)))) s c l = absurd (let z : suc (suc (suc (suc q))) < 4 = l in omega arith)
+ahead q s c = below-4 (λ q. cosineAt q s c ≡ sineAt ((q + 1) % 4) s c) refl refl refl refl q
 
-module _ (x : Float) (q : ℕ) (r s p res : Float) (i : inRange x ≡ true) (eq : q ≡ quadrantOf (turns x)) (er : r ≡ reduced x) (es : s ≡ sinePart r (r ⊠ r)) (ep : p ≡ cosinePart (r ⊠ r)) where
-  pub sine-is : res ≡ sineAt q s p → res ≡ sine x
-  unfolding sine
-  sine-is e = cc
+-- what the code makes of the reduction, whichever it is
+module _ (f : ℕ → Float → Float → Float) (x : Float) where
+  pub in-range-is : (q : ℕ) (r s c res : Float) → inRange x ≡ true → q ≡ quadrantOf (turns x) → r ≡ reduced x → s ≡ sinePart r (r ⊠ r) → c ≡ cosinePart (r ⊠ r) → res ≡ f q s c → res ≡ ofReduction f x
+  in-range-is q r s c res i eq er es ec e = cc
 
-  pub cosine-is : res ≡ cosineAt q s p → res ≡ cosine x
-  unfolding cosine
-  cosine-is e = cc
+  -- what code writes for NaN is 0.0 / 0.0
+  pub out-of-range-is : inRange x ≡ false → div binary32 (ofBits binary32 0) (ofBits binary32 0) ≡ ofReduction f x
+  unfolding div ofBits
+  out-of-range-is h = simp h
 
--- what code writes for NaN is 0.0 / 0.0
-pub sine-out : (x : Float) → inRange x ≡ false → div binary32 (ofBits binary32 0) (ofBits binary32 0) ≡ sine x
-unfolding sine div ofBits
-sine-out x h = simp h
+-- no quarter turn on is the sine, one is the cosine
+pub sine-ahead-none : (x : Float) → sineAhead 0 x ≡ sine x
+unfolding sineAhead sine
+sine-ahead-none x = ap (λ (q : ℕ). ofReduction (λ _ s c. sineAt q s c) x) (let h = quadrant-below (turns x) in let z : (quadrantOf (turns x) + 0) % 4 ≡ quadrantOf (turns x) = omega arith in z)
 
-pub cosine-out : (x : Float) → inRange x ≡ false → div binary32 (ofBits binary32 0) (ofBits binary32 0) ≡ cosine x
-unfolding cosine div ofBits
-cosine-out x h = simp h
+pub sine-ahead-one : (x : Float) → sineAhead 1 x ≡ cosine x
+unfolding sineAhead cosine
+sine-ahead-one x = ap (λ (v : Float). cond (inRange x) v nan) (sym (ahead (quadrantOf (turns x)) _ _ (quadrant-below (turns x))))

@@ -83,11 +83,15 @@ sineAt q s c = byQuadrant q s c (neg s) (neg c)
 unfoldable pub cosineAt : ℕ → Float → Float → Float
 cosineAt q s c = byQuadrant q c (neg s) (neg c) s
 
+-- one of the two, by what the reduction leaves: of n modulo 4, S and C
+abbrev pub ofReduction : (ℕ → Float → Float → Float) → Float → Float
+ofReduction f x = let r = reduced x in let z = r ⊠ r in cond (inRange x) (f (quadrantOf (turns x)) (sinePart r z) (cosinePart z)) nan
+
 unfoldable pub sine : Float → Float
-sine x = let r = reduced x in let z = r ⊠ r in cond (inRange x) (sineAt (quadrantOf (turns x)) (sinePart r z) (cosinePart z)) nan
+sine x = ofReduction sineAt x
 
 unfoldable pub cosine : Float → Float
-cosine x = let r = reduced x in let z = r ⊠ r in cond (inRange x) (cosineAt (quadrantOf (turns x)) (sinePart r z) (cosinePart z)) nan
+cosine x = ofReduction cosineAt x
 
 unfoldable pub tangent : Float → Float
 tangent x = sine x ⊘ cosine x

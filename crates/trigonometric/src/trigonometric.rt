@@ -8,7 +8,7 @@ ghost use Rattle.basic.specs.WholePart.{wholePart};
 ghost use Rattle.trigonometric.specs.Trigonometric.{inRange, turnsArgument, turns, rest, reduced, quadrantOf};
 ghost use Rattle.trigonometric.specs.Trigonometric.{sinePart, cosinePart, sineAt, cosineAt};
 ghost use Rattle.trigonometric.specs.Trigonometric.{sine, cosine, tangent};
-ghost use Rattle.trigonometric.specs.Turns.{turnsFloat, quadrantBy};
+ghost use Rattle.trigonometric.specs.Turns.{turnsFloat, quadrantBy, sineAhead};
 
 pub struct SineCosine {
     pub sine: f32,
@@ -129,33 +129,29 @@ fn sine_of(q: u32, r: f32) -> f32
     parts[(q / 2) as usize]
 }
 
-fn cosine_of(q: u32, r: f32) -> f32
-    requires { ⌜ q < 4 ⌝ }
-    ensures { λ c. ⌜ c ≡ cosineAt q (sinePart r (mul binary32 r r)) (cosinePart (mul binary32 r r)) ⌝ }
+// The sine that many quarter turns on from x.
+fn sine_ahead(x: f32, quarters: u32) -> f32
+    requires { ⌜ quarters < 4 ⌝ }
+    ensures { λ s. ⌜ s ≡ sineAhead quarters x ⌝ }
 {
-    sine_of((q + 1) % 4, r)
+    if in_range(x) {
+        let d = reduce(x);
+        sine_of((d.quadrant + quarters) % 4, d.rest)
+    } else {
+        0.0 / 0.0
+    }
 }
 
 pub fn sin(x: f32) -> f32
     ensures { λ r. ⌜ r ≡ sine x ⌝ }
 {
-    if in_range(x) {
-        let d = reduce(x);
-        sine_of(d.quadrant, d.rest)
-    } else {
-        0.0 / 0.0
-    }
+    sine_ahead(x, 0)
 }
 
 pub fn cos(x: f32) -> f32
     ensures { λ r. ⌜ r ≡ cosine x ⌝ }
 {
-    if in_range(x) {
-        let d = reduce(x);
-        cosine_of(d.quadrant, d.rest)
-    } else {
-        0.0 / 0.0
-    }
+    sine_ahead(x, 1)
 }
 
 // Both, from one reduction.

@@ -10,9 +10,6 @@ use borrow.Author.Needs.{needs}
 use Rattle.deck.proofs.row.fill_row.Statement.{statement}
 use Rattle.deck.proofs.row.fill_row.Tie as tie
 
-enum-told : tie.Need-enum-told
-enum-told c = search needs
-
 returns : tie.Need-returns
 returns c = row-unsettled _ _ _ _ _ (sym (c .before .before .row-of .ensures .0) ∙ c .enum-told .given .1)
 
@@ -49,7 +46,7 @@ returns-2 c =
 pub fill-row-spec : {M : Type 1} → statement M
 fill-row-spec =
     tie.close
-    (tie.spec (λ c. search needs) (λ c. search needs) (λ c κs. search needs) (λ c. search needs) enum-told
+    (tie.spec (λ c. search needs) (λ c. search needs) (λ c κs. search needs) (λ c. search needs) (λ c. search needs)
     returns (λ c κs. search needs) (λ c. search needs) (λ c. search needs) (λ c κs. search needs)
     (λ c κs. search needs) sub-table (λ c. search needs) (λ c. search needs) slice-write-table
     fill-above-requires sub-table-2 add-table mul-table-3 slice-write-table-2 same-length returns-2)

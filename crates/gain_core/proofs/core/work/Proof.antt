@@ -63,9 +63,6 @@ returns c =
     let low : c .ground-gain .result ≡ groundOf (s .antenna .kop) (s .height) = c .ground-gain .ensures ∙ ap (λ (k : ℤ). groundOf k (s .height)) back in
     all-answers (s .antenna) (s .fmc) (s .e) (s .delta) (s .height) _ (low-only (s .antenna) (s .fmc) (s .delta) (s .e) (s .height) _ _ refl refl (sym w ∙ c .before .before .if1 .taken) _ low)
 
-enum-told : tie.Need-enum-told
-enum-told c = search needs
-
 returns-2 : tie.Need-returns-2
 unfolding round ofBits
 returns-2 c =
@@ -93,5 +90,5 @@ pub work-spec : {M : Type 1} → statement M
 work-spec =
     tie.close
     (tie.spec (λ c κs. search needs) (λ c κs. search needs) returns (λ c κs. search needs) (λ c. search needs)
-    enum-told returns-2 (λ c κs. search needs) (λ c κs. search needs) (λ c κs. search needs) returns-3
+    (λ c. search needs) returns-2 (λ c κs. search needs) (λ c κs. search needs) (λ c κs. search needs) returns-3
     (λ c κs. search needs) (λ c κs. search needs) returns-4)

@@ -5,27 +5,13 @@ use borrow.Author.Needs.{needs}
 use Rattle.integrals.proofs.entry.integrals_of.Statement.{statement}
 use Rattle.integrals.proofs.entry.integrals_of.Tie as tie
 
-enum-told : tie.Need-enum-told
-enum-told c = search needs
-
-returns : tie.Need-returns
-unfolding integralsOf round ofBits
-returns c = integrals-answers (c .before .before .before .before .args .x) _ (rw (c .before .before .before .if1 .taken, ← c .before .before .ci-series .ensures .0, c .enum-told .given .1))
-
-returns-2 : tie.Need-returns-2
-unfolding integralsOf round ofBits
-returns-2 c = integrals-answers (c .before .before .before .before .before .before .before .before .args .x) _ (rw (c .before .before .before .before .before .before .before .if1 .taken, ← c .before .before .before .before .before .before .ci-series .ensures .0, c .before .before .before .before .ci .given .1, ← c .before .before .si-series .ensures .0, c .enum-told2 .given .1))
-
-returns-3 : tie.Need-returns-3
-unfolding integralsOf round ofBits
-returns-3 c = integrals-answers (c .before .before .before .before .before .before .before .before .before .args .x) _ (rw (c .before .before .before .before .before .before .before .before .if1 .taken, ← c .before .before .before .before .before .before .before .ci-series .ensures .0, c .before .before .before .before .before .ci .given .1, ← c .before .before .before .si-series .ensures .0, c .before .si .given .1))
-
-returns-4 : tie.Need-returns-4
-unfolding integralsOf round ofBits
-returns-4 c = integrals-answers (c .before .before .args .x) _ (rw (c .before .if1 .left, ← c .rational .ensures))
-
 pub integrals-of-spec : {M : Type 1} → statement M
+unfolding integralsOf round ofBits
 integrals-of-spec =
     tie.close
-    (tie.spec (λ c κs. search needs) (λ c. search needs) enum-told returns (λ c κs. search needs)
-    (λ c. search needs) (λ c. search needs) returns-2 returns-3 (λ c κs. search needs) returns-4)
+    (tie.spec (λ c κs. search needs) (λ c. search needs) (λ c. search needs)
+    (λ c. integrals-answers (c .before .before .before .before .args .x) _ (rw (c .before .before .before .if1 .taken, ← c .before .before .ci-series .ensures .0, c .enum-told .given .1))) (λ c κs. search needs)
+    (λ c. search needs) (λ c. search needs)
+    (λ c. integrals-answers (c .before .before .before .before .before .before .before .before .args .x) _ (rw (c .before .before .before .before .before .before .before .if1 .taken, ← c .before .before .before .before .before .before .ci-series .ensures .0, c .before .before .before .before .ci .given .1, ← c .before .before .si-series .ensures .0, c .enum-told2 .given .1)))
+    (λ c. integrals-answers (c .before .before .before .before .before .before .before .before .before .args .x) _ (rw (c .before .before .before .before .before .before .before .before .if1 .taken, ← c .before .before .before .before .before .before .before .ci-series .ensures .0, c .before .before .before .before .before .ci .given .1, ← c .before .before .before .si-series .ensures .0, c .before .si .given .1))) (λ c κs. search needs)
+    (λ c. integrals-answers (c .before .before .args .x) _ (rw (c .before .if1 .left, ← c .rational .ensures))))

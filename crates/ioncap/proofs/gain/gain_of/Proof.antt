@@ -14,9 +14,6 @@ returns : tie.Need-returns
 unfolding gainOf
 returns c = answers (c .before .before .args .call) (c .before .before .args .height) _ (rw (← c .before .call-refusal .ensures, ne-eqb _ 0 (c .if1 .taken)))
 
-enum-told : tie.Need-enum-told
-enum-told c = search needs
-
 returns-2 : tie.Need-returns-2
 unfolding gainOf callWork
 returns-2 c = let call = c .before .before .before .before .before .before .before .before .before .before .args .call in
@@ -33,4 +30,4 @@ pub gain-of-spec : {M : Type 1} → statement M
 gain-of-spec =
     tie.close
     (tie.spec (λ c κs. search needs) returns (λ c κs. search needs) (λ c κs. search needs)
-    (λ c κs. search needs) (λ c κs. search needs) (λ c. search needs) enum-told returns-2 returns-3)
+    (λ c κs. search needs) (λ c κs. search needs) (λ c. search needs) (λ c. search needs) returns-2 returns-3)

@@ -6,13 +6,10 @@ use Rattle.parameters.proofs.Types.{is-type, no-type}
 use Rattle.parameters.proofs.length.read_height.Statement.{statement}
 use Rattle.parameters.proofs.length.read_height.Tie as tie
 
-returns : tie.Need-returns
-unfolding heightSlotOf isType round ofBits
-returns c = rw (is-type (c .before .args .kop) (search needs) (c .match .keys1))
-
-returns-2 : tie.Need-returns-2
-unfolding heightSlotOf
-returns-2 c = rw (no-type _ 2 (c .before .match .rest .1)) (c .read-length .ensures)
-
 pub read-height-spec : {M : Type 1} → statement M
-read-height-spec = tie.close (tie.spec (λ c κs. search needs) returns returns-2)
+unfolding heightSlotOf round ofBits
+read-height-spec =
+    tie.close
+    (tie.spec (λ c κs. search needs)
+    (λ c. unfold isType in rw (is-type (c .before .args .kop) (search needs) (c .match .keys1)))
+    (λ c. rw (no-type _ 2 (c .before .match .rest .1)) (c .read-length .ensures)))

@@ -34,6 +34,7 @@ returns-other c = let r = c .before .match .rest in rw (
 ) (c .params11 .ensures)
 
 pub ioninit-spec : {M : Type 1} → statement M
+unfolding ioninitOf isType round ofBits
 ioninit-spec =
     tie.close
     (tie.spec (λ c. search needs) (λ c. search needs) (λ c. search needs) (λ c. search needs)
@@ -41,14 +42,14 @@ ioninit-spec =
     (λ c κs. search needs) (λ c κs. search needs) (λ c κs. search needs) (λ c κs. search needs)
     (λ c κs. search needs) (λ c κs. search needs) (λ c κs. search needs) (λ c κs. search needs)
     (λ c κs. search needs)
-    (λ c. unfold ioninitOf in unfold isType in unfold round in unfold ofBits in rw (typed (c .before .before) (c .before .match .keys1)) (c .params .ensures))
-    (λ c. unfold ioninitOf in unfold isType in unfold round in unfold ofBits in rw (typed (c .before .before) (c .before .match .keys2)) (c .params2 .ensures))
-    (λ c. unfold ioninitOf in unfold isType in unfold round in unfold ofBits in rw (typed (c .before .before) (c .before .match .keys3)) (c .params3 .ensures))
-    (λ c. unfold ioninitOf in unfold isType in unfold round in unfold ofBits in rw (typed (c .before .before) (c .before .match .keys4)) (c .params4 .ensures))
-    (λ c. unfold ioninitOf in unfold isType in unfold round in unfold ofBits in rw (typed (c .before .before) (c .before .match .keys5)) (c .params5 .ensures))
-    (λ c. unfold ioninitOf in unfold isType in unfold round in unfold ofBits in rw (typed (c .before .before) (c .before .match .keys6)) (c .params6 .ensures))
-    (λ c. unfold ioninitOf in unfold isType in unfold round in unfold ofBits in rw (typed (c .before .before) (c .before .match .keys7)) (c .params7 .ensures))
-    (λ c. unfold ioninitOf in unfold isType in unfold round in unfold ofBits in rw (typed (c .before .before) (c .before .match .keys8)) (c .params8 .ensures))
-    (λ c. unfold ioninitOf in unfold isType in unfold round in unfold ofBits in rw (typed (c .before .before) (c .before .match .keys9)) (c .params9 .ensures))
-    (λ c. unfold ioninitOf in unfold isType in unfold round in unfold ofBits in rw (typed (c .before .before) (c .before .match .keys10)) (c .params10 .ensures))
+    (λ c. rw (typed (c .before .before) (c .before .match .keys1)) (c .params .ensures))
+    (λ c. rw (typed (c .before .before) (c .before .match .keys2)) (c .params2 .ensures))
+    (λ c. rw (typed (c .before .before) (c .before .match .keys3)) (c .params3 .ensures))
+    (λ c. rw (typed (c .before .before) (c .before .match .keys4)) (c .params4 .ensures))
+    (λ c. rw (typed (c .before .before) (c .before .match .keys5)) (c .params5 .ensures))
+    (λ c. rw (typed (c .before .before) (c .before .match .keys6)) (c .params6 .ensures))
+    (λ c. rw (typed (c .before .before) (c .before .match .keys7)) (c .params7 .ensures))
+    (λ c. rw (typed (c .before .before) (c .before .match .keys8)) (c .params8 .ensures))
+    (λ c. rw (typed (c .before .before) (c .before .match .keys9)) (c .params9 .ensures))
+    (λ c. rw (typed (c .before .before) (c .before .match .keys10)) (c .params10 .ensures))
     returns-other)

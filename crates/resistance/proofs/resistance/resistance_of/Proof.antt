@@ -4,22 +4,14 @@ use borrow.Author.Needs.{needs}
 use Rattle.resistance.proofs.resistance.resistance_of.Statement.{statement}
 use Rattle.resistance.proofs.resistance.resistance_of.Tie as tie
 
-enum-told : tie.Need-enum-told
-enum-told c = search needs
-
-returns : tie.Need-returns
-unfolding resistanceOf
-returns c = resistance-answers (c .before .before .before .args .d) (c .before .before .before .args .z) _ (rw (← c .before .before .integral-pair .ensures .0, c .enum-told .given .1))
-
-returns-2 : tie.Need-returns-2
-unfolding resistanceOf
-returns-2 c = resistance-answers (c .before .before .before .before .before .args .d) (c .before .before .before .before .before .args .z) _ (rw (
-  ← c .before .before .before .before .integral-pair .ensures .0,
-  c .before .before .dw .given .1,
-  ← c .resistance-from .ensures,
-))
-
 pub resistance-of-spec : {M : Type 1} → statement M
+unfolding resistanceOf
 resistance-of-spec =
     tie.close
-    (tie.spec (λ c κs. search needs) (λ c. search needs) enum-told returns (λ c κs. search needs) returns-2)
+    (tie.spec (λ c κs. search needs) (λ c. search needs) (λ c. search needs)
+    (λ c. resistance-answers (c .before .before .before .args .d) (c .before .before .before .args .z) _ (rw (← c .before .before .integral-pair .ensures .0, c .enum-told .given .1))) (λ c κs. search needs)
+    (λ c. resistance-answers (c .before .before .before .before .before .args .d) (c .before .before .before .before .before .args .z) _ (rw (
+      ← c .before .before .before .before .integral-pair .ensures .0,
+      c .before .before .dw .given .1,
+      ← c .resistance-from .ensures,
+    ))))

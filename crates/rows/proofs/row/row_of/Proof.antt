@@ -9,9 +9,6 @@ use borrow.Author.Needs.{needs}
 use Rattle.rows.proofs.row.row_of.Statement.{statement}
 use Rattle.rows.proofs.row.row_of.Tie as tie
 
-enum-told : tie.Need-enum-told
-enum-told c = search needs
-
 returns : tie.Need-returns
 unfolding rowOf
 returns c = row-answers (c .before .before .before .before .args .antenna) (c .before .before .before .before .args .fmc) _ (rw (← c .before .before .before .wave-of .ensures, ← c .before .before .pattern-of .ensures .0, c .enum-told .given .1))
@@ -29,6 +26,6 @@ returns-2 c = let antenna = c .before .before .before .before .before .before .b
 pub row-of-spec : {M : Type 1} → statement M
 row-of-spec =
     tie.close
-    (tie.spec (λ c κs. search needs) (λ c κs. search needs) (λ c. search needs) enum-told returns
+    (tie.spec (λ c κs. search needs) (λ c κs. search needs) (λ c. search needs) (λ c. search needs) returns
     (λ c κs. search needs) (λ c κs. search needs) (λ c κs. search needs) (λ c κs. search needs)
     (λ c κs. search needs) (λ c κs. search needs) returns-2)
