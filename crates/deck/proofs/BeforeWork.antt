@@ -1,10 +1,9 @@
 -- The refusals before the work: those of the deck and the table, else the entry's own. Assumes nothing.
 use mathlib.Core.Path.{_≡_, refl, _∙_}
-use mathlib.Core.Bool.{Bool, true, false, not, cond}
+use mathlib.Core.Bool.{Bool, not}
 use mathlib.Core.List.{List}
 use mathlib.Core.Logic.{_≢_}
 use Prim.Native.Nat.{ℕ, _+_}
-use native.Mathlib.Omega.{arith}
 use lib.Dec.{leb}
 use lib.Ieee.{Float}
 use lib.Ieee.Scale.{finite}
@@ -12,20 +11,14 @@ use Rattle.limits.specs.Refusals.{firstRefusal}
 use Rattle.table.specs.Table.{isTable}
 use Rattle.independence.specs.Deck.{Deck}
 use Rattle.independence.specs.Contracts.{refusalBeforeWork, malformedRefusal}
-use Rattle.independence.proofs.Calls.{found-last}
+use Rattle.independence.proofs.Calls.{found-last, deckThen, deck-then}
 use Rattle.deck_state.specs.DeckState.{countLimit, deckRefusal}
 use Rattle.deck.specs.declared.fields.Fields.{Fields}
 use Rattle.deck.specs.Fields.{fieldsRefusal}
 use Rattle.deck.specs.Antenna.{theAntenna}
 
--- of the tests 10, 9 and 7, and then r
-first : (a b g : Bool) (r : ℕ)
-    → (_≢_ {A = ℕ} (cond a 10 (cond b 9 (cond g 7 0))) 0 → _≡_ {A = ℕ} (cond a 10 (cond b 9 (cond g 7 r))) (cond a 10 (cond b 9 (cond g 7 0))))
-    × (_≡_ {A = ℕ} (cond a 10 (cond b 9 (cond g 7 0))) 0 → _≡_ {A = ℕ} (cond a 10 (cond b 9 (cond g 7 r))) r)
-first true b g r = (λ p. refl, λ p. let z : ⊥ = omega arith in absurd z)
-first false true g r = (λ p. refl, λ p. let z : ⊥ = omega arith in absurd z)
-first false false true r = (λ p. refl, λ p. let z : ⊥ = omega arith in absurd z)
-first false false false r = (λ p. absurd (p refl), λ p. refl)
+first : (a b g : Bool) (r : ℕ) → (deckThen a b g 0 ≢ 0 → deckThen a b g r ≡ deckThen a b g 0) × (deckThen a b g 0 ≡ 0 → deckThen a b g r ≡ r)
+first a b g r = deck-then a b g 0 r r (λ p. absurd (p refl), λ p. refl)
 
 module _ (d : Deck) (t : List Float) where
   abbrev counts : Bool

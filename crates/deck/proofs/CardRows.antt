@@ -35,10 +35,10 @@ fits-at a n p e l =
     subst (λ (z : ℤ). T (nonNeg z) × Fits w64 (natAbs z)) (sym (p ∙ e)) f
 
 -- ---- the first and last MHz of a card, and its rows
-abbrev firstOf : Card → ℕ
+abbrev pub firstOf : Card → ℕ
 firstOf c = natAbs (back (c .first))
 
-abbrev lastOf : Card → ℕ
+abbrev pub lastOf : Card → ℕ
 lastOf c = natAbs (back (c .last))
 
 pub record Rows (c : Card) (f : Fields) : Type 0 where
@@ -81,19 +81,19 @@ rows-read c a f e ea p =
     record { antenna = ea ∙ ap antennaFor e; passes = p; first = at .first; count = omega (arith, at .first, at .last, at .order) }
 
 module _ (a : Antenna) (first count : ℕ) (f : Fields) (of : RowsOf a first count f) (h : Float) (t₀ : List Float) where
-  row-done : (x y : Float) (t t′ : List Float) (n r : ℕ) → n < count → RowOfFields a (first + n) x t t′ r y → RowDone theAntenna f (natAbs (f .first) + n) x t t′ r y
-  row-done x y t t′ n r l row =
-      let at = in-range f (of .passes) in
-      subst (λ (k : ℕ). RowDone theAntenna f (k + n) x t t′ r y) (of .first)
-      (row f (of .antenna) (record { passes = of .passes; low = omega (arith, of .first); high = omega (arith, of .first, of .count, at .order) }))
+  -- a row, after n of them
+  module _ (x y : Float) (t t′ : List Float) (n r : ℕ) (i : CardInv theAntenna f h t₀ t x n) (l : n < count) (row : RowOfFields a (first + n) x t t′ r y) where
+    row-done : RowDone theAntenna f (natAbs (f .first) + n) x t t′ r y
+    row-done =
+        let at = in-range f (of .passes) in
+        subst (λ (k : ℕ). RowDone theAntenna f (k + n) x t t′ r y) (of .first)
+        (row f (of .antenna) (record { passes = of .passes; low = omega (arith, of .first); high = omega (arith, of .first, of .count, at .order) }))
 
-  pub rows-step : (x y : Float) (t t′ : List Float) (n r : ℕ) → CardInv theAntenna f h t₀ t x n → n < count → RowOfFields a (first + n) x t t′ r y → r ≡ 0
-      → CardInv theAntenna f h t₀ t′ y (n + 1)
-  rows-step x y t t′ n r i l row z = card-step theAntenna theLaws f h t₀ t t′ x y n r i (omega (arith, of .count)) (row-done x y t t′ n r l row) z
+    pub rows-step : r ≡ 0 → CardInv theAntenna f h t₀ t′ y (n + 1)
+    rows-step z = card-step theAntenna theLaws f h t₀ t t′ x y n r i (omega (arith, of .count)) row-done z
 
-  pub rows-stop : (x y z : Float) (t t′ : List Float) (n r : ℕ) → CardInv theAntenna f h t₀ t x n → n < count → RowOfFields a (first + n) x t t′ r y → r ≢ 0
-      → CardDone theAntenna f h t₀ t′ r z
-  rows-stop x y z t t′ n r i l row bad = card-stops theAntenna theLaws f h t₀ t t′ x y z n r i (omega (arith, of .count)) (row-done x y t t′ n r l row) bad
+    pub rows-stop : (z : Float) → r ≢ 0 → CardDone theAntenna f h t₀ t′ r z
+    rows-stop z bad = card-stops theAntenna theLaws f h t₀ t t′ x y z n r i (omega (arith, of .count)) row-done bad
 
   pub rows-end : (x : Float) (t : List Float) (n : ℕ) → CardInv theAntenna f h t₀ t x n → count ≤ n → CardDone theAntenna f h t₀ t 0 x
   rows-end x t n i l = card-ends theAntenna theLaws f h t₀ t x n i (omega (arith, of .count))

@@ -11,7 +11,7 @@ use Rattle.rows.specs.Row.{heightFor, rowOf}
 use Rattle.rows.specs.declared.row.Row.{Row}
 use Rattle.rows.specs.declared.row.RowAnswer.{RowAnswer}
 use Rattle.rows.specs.declared.row.RowAnswer.the-variants as R
-use Rattle.rows.proofs.Height.{row-own}
+use Rattle.rows.proofs.Height.{Own, row-own}
 use Rattle.integrals.specs.declared.entry.Turns.{Turns}
 use Rattle.cells.specs.Cell.{blendsWithZenith}
 use Rattle.gain_core.specs.Core.{zenithGainFor, aboveFrom, aboveGround, atGround}
@@ -32,6 +32,10 @@ module _ (c : Card) (m : ℕ) where
   unfolding callOf
   call-ground h = ap answerOf (below (antennaFor c) (whole m) (elevationAt 0) (columnAt 0) h (is-true (le (elevationAt 0) (num 0 1)) elevation-ground))
 
+  at-ground : (h : Float) (P : Answer → Type 0)
+      → ((up : Bool) → blendsWithZenith (antennaFor c .kop) ≡ up → P (answerOf (atGround (antennaFor c) (whole m) (columnAt 0) h))) → P (callOf c m 0 h)
+  at-ground h P by = rw (call-ground h) (by (blendsWithZenith (antennaFor c .kop)) refl)
+
   -- ---- a row whose series do not settle refuses every cell above the ground
   module _ (un : rowOf (antennaFor c) (whole m) ≡ R.Unsettled) where
     pub above-unsettled : (d : ℕ) (h : Float) → d < 90 → callOf c m (suc d) h .refusal ≡ 11
@@ -40,11 +44,8 @@ module _ (c : Card) (m : ℕ) where
         ap (λ (a : Answer). a .refusal) (call-above d h k) ∙ ap (λ (r : RowAnswer). answerOf (aboveFrom (antennaFor c) (elevationAt (suc d)) (columnAt (suc d)) r) .refusal) un
 
     pub ground-unsettled : (h : Float) → (callOf c m 0 h .refusal ≡ 0) ⊎ (callOf c m 0 h .refusal ≡ 11)
-    ground-unsettled h = rw (call-ground h) (by (blendsWithZenith (antennaFor c .kop)) refl)
-      where
-        by : (b : Bool) → blendsWithZenith (antennaFor c .kop) ≡ b → (answerOf (atGround (antennaFor c) (whole m) (columnAt 0) h) .refusal ≡ 0) ⊎ (answerOf (atGround (antennaFor c) (whole m) (columnAt 0) h) .refusal ≡ 11)
-        by true e = unfold atGround in rw (e, un) (inr refl)
-        by false e = unfold atGround in rw e (inl refl)
+    unfolding atGround
+    ground-unsettled h = at-ground h (λ a. (a .refusal ≡ 0) ⊎ (a .refusal ≡ 11)) (λ up. elim up [ true ↦ λ e. rw (e, un) (inr refl) | false ↦ λ e. rw e (inl refl) ])
 
   -- ---- a row that settles
   module _ (row : Row) (turns : Turns) (is : rowOf (antennaFor c) (whole m) ≡ R.Settled row turns) where
@@ -53,16 +54,14 @@ module _ (c : Card) (m : ℕ) where
     unfolding aboveGround
     above-settled d h k = call-above d h k ∙ ap (λ (r : RowAnswer). answerOf (aboveFrom (antennaFor c) (elevationAt (suc d)) (columnAt (suc d)) r)) is
 
-    own : (row .kop ≡ antennaFor c .kop) × (row .x ≡ heightFor (antennaFor c .kop) (antennaFor c .leg) (waveOf (whole m)))
+    own : Own (antennaFor c) (whole m) row
     own = rw is at (row-own (antennaFor c) (whole m))
 
     pub row-height : row .x ≡ heightFor (antennaFor c .kop) (antennaFor c .leg) (waveOf (whole m))
     row-height = own .1
 
     pub ground-settled : (h : Float) → (callOf c m 0 h .refusal ≡ 0) × (callOf c m 0 h .gain ≡ groundCell (antennaFor c .kop) (zenithGainFor row) (columnAt 0) h)
-    ground-settled h = rw (call-ground h) (by (blendsWithZenith (antennaFor c .kop)) refl)
-      where
-        by : (b : Bool) → blendsWithZenith (antennaFor c .kop) ≡ b
-            → (answerOf (atGround (antennaFor c) (whole m) (columnAt 0) h) .refusal ≡ 0) × (answerOf (atGround (antennaFor c) (whole m) (columnAt 0) h) .gain ≡ groundCell (antennaFor c .kop) (zenithGainFor row) (columnAt 0) h)
-        by true e = unfold atGround zenithGainFor groundCell in rw (e, is, ap blendsWithZenith (own .0) ∙ e) (refl, refl)
-        by false e = unfold atGround groundCell in rw e (refl, refl)
+    unfolding atGround zenithGainFor groundCell
+    ground-settled h =
+        at-ground h (λ a. (a .refusal ≡ 0) × (a .gain ≡ groundCell (antennaFor c .kop) (zenithGainFor row) (columnAt 0) h))
+        (λ up. elim up [ true ↦ λ e. rw (e, is, ap blendsWithZenith (own .0) ∙ e) (refl, refl) | false ↦ λ e. rw e (refl, refl) ])

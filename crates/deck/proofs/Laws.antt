@@ -1,13 +1,13 @@
 -- The laws that demand 3 rests on, of the antenna that the cards are run on. Assumes nothing.
 use mathlib.Core.Path.{_≡_, refl, sym, ap, ap₂, subst, _∙_}
 use mathlib.Core.Bool.{Bool, true, false, not, _||_}
-use mathlib.Core.Logic.{_⊎_, inr, _≢_}
+use mathlib.Core.Logic.{inr, _≢_}
 use Prim.Native.Nat.{ℕ, zero, suc, _<_, _≤_}
 use native.Mathlib.Omega.{arith}
 use native.Mathlib.Nat.{not-suc-le-zero}
 use lib.Dec.{T, eqb}
 use lib.IntN.{ℤ, pos, natAbs}
-use lib.Ieee.{Float, nan, lt, le}
+use lib.Ieee.{Float, le}
 use lib.Ieee.Bits.{is-true, is-false}
 use lib.Ieee.Scale.{finite}
 use Rattle.single.specs.Single.{_⊞_, num, whole}
@@ -135,21 +135,18 @@ theLaws =
     record {
       range = λ f p. let r = in-range f p in (r .low, r .order, r .high);
       inputNumber = fields-number;
-      callNumber = λ f m d h F l. call-number f m d h;
+      callNumber = λ f m d h F l. unfold callOf in answer-number (workOf (antennaFor (cardOf f)) (whole m) (elevationAt d) (columnAt d) h);
       above = λ f m d h h′ F l. call-above (cardOf f) m d h (omega arith) ∙ sym (call-above (cardOf f) m d h′ (omega arith));
       leaves = λ f m d h F l e. leaves f m d h F (omega arith) e;
       finiteHeight = left-finite;
       groundRefusal = λ f m h h′ F. ground-refusal f m (F .passes) h h′;
       groundSame = λ f m h h′ F t. ground-same f m (F .passes) h h′ t;
       groundGain = λ f m h F t e. ground-gain f m (F .passes) h t;
-      efficiencySame = λ kop h h′ n. same kop h h′ n;
-      efficiencyOf8 = eight;
-      floored = λ f m d h F l t e. floored f m d h F l t e;
+      efficiencySame = λ kop h h′ n. unfold isType in efficiency-same (pos kop) h h′ (num 0 1) (is-false (carriesHeight kop) n);
+      efficiencyOf8 = λ h. unfold efficiencyOf isType in refl;
+      floored = λ f m d h F l t e. unfold floorPlus in floor-holds f m d h (F .passes) l t e;
     }
   where
-    call-number : (f : Fields) (m d : ℕ) (h : Float) → (callOf (cardOf f) m d h .refusal ≢ 9) × (callOf (cardOf f) m d h .refusal ≢ 10)
-    call-number f m d h = unfold callOf in answer-number (workOf (antennaFor (cardOf f)) (whole m) (elevationAt d) (columnAt d) h)
-
     leaves : (f : Fields) (m d : ℕ) (h : Float) → Fills theAntenna f m → d < 90 → callOf (cardOf f) m (suc d) h .refusal ≡ 0 → callOf (cardOf f) m (suc d) h .height ≡ heightLeft theAntenna f m
     leaves f m d h F l e =
         let at = call-above (cardOf f) m d h l in
@@ -157,13 +154,3 @@ theLaws =
         ap (λ (x : Answer). x .height) at
         ∙ answer-height _ (aboveGround a (whole m) (elevationAt (suc d)) (columnAt (suc d))) (left-above a (whole m) (elevationAt (suc d)) (columnAt (suc d))) (ap (λ (x : Answer). x .refusal) (sym at) ∙ e)
         ∙ (unfold cardOf antennaFor in left-is f m (F .passes))
-
-    same : (kop : ℕ) (h h′ : Float) → T (not (carriesHeight kop)) → efficiencyOf (pos kop) h (num 0 1) ≡ efficiencyOf (pos kop) h′ (num 0 1)
-    same kop h h′ n = unfold isType in efficiency-same (pos kop) h h′ (num 0 1) (is-false (carriesHeight kop) n)
-
-    eight : (h : Float) → efficiencyOf (pos 8) h (num 0 1) ≡ num 0 1
-    eight h = unfold efficiencyOf isType in refl
-
-    floored : (f : Fields) (m d : ℕ) (h : Float) → Fills theAntenna f m → d < 91 → T (not (eqb (natAbs (f .kop)) 2 || hasSecondCall (natAbs (f .kop)))) → callOf (cardOf f) m d h .refusal ≡ 0
-        → (callOf (cardOf f) m d h .gain ≡ nan) ⊎ (T (lt floor (callOf (cardOf f) m d h .gain)) ⊎ (callOf (cardOf f) m d h .gain ≡ floorPlus (callOf (cardOf f) m d h .efficiency)))
-    floored f m d h F l t e = unfold floorPlus in floor-holds f m d h (F .passes) l t e

@@ -10,6 +10,7 @@ use Rattle.parameters.specs.Params.{isType}
 use Rattle.reflection.specs.Angles.{waveOf}
 use Rattle.reflection.specs.declared.angles.Elevation.{Elevation}
 use Rattle.reflection.specs.declared.angles.Azimuth.{Azimuth}
+use Rattle.integrals.specs.declared.entry.Turns.{Turns}
 use Rattle.finish.specs.Finish.{floor, efficiencyOf, groundOf}
 use Rattle.finish.proofs.Laws.{ground-gain, ground-same, floor-rule}
 use Rattle.rows.specs.Row.{heightFor, rowOf}
@@ -19,7 +20,7 @@ use Rattle.patterns.specs.declared.pattern.Pattern.the-variants as P
 use Rattle.rows.specs.declared.row.Row.{Row}
 use Rattle.rows.specs.declared.row.RowAnswer.{RowAnswer}
 use Rattle.rows.specs.declared.row.RowAnswer.the-variants as R
-use Rattle.rows.proofs.Height.{OfRow, row-own}
+use Rattle.rows.proofs.Height.{Own, OfRow, row-own}
 use Rattle.cells.specs.Cell.{blendsWithZenith, cellBy, cellOf, cellGain, powerCell, curtainCell}
 use Rattle.gain_core.specs.Core.{aboveFrom, aboveGround, groundFrom, atGround, workOf, workNumber}
 use Rattle.gain_core.specs.declared.core.Call.{Call}
@@ -31,6 +32,15 @@ use Rattle.gain_core.specs.declared.core.Worked.the-variants.{Settled, U
 abbrev pub OfCall : (Call → Type 0) → Worked → Type 0
 OfCall Q (Settled call) = Q call
 OfCall Q Unsettled = Unit {0}
+
+-- what holds of the work on every row that is the antenna's own holds of the work on its row
+from-row : (antenna : Antenna) (fmc : Float) (work : RowAnswer → Worked) (Q : Call → Type 0) → ((row : Row) (turns : Turns) → Own antenna fmc row → OfCall Q (work (R.Settled row turns)))
+    → OfCall Q (work R.Unsettled) → OfCall Q (work (rowOf antenna fmc))
+from-row antenna fmc work Q settled unsettled = go (rowOf antenna fmc) (row-own antenna fmc)
+  where
+    go : (r : RowAnswer) → OfRow (Own antenna fmc) r → OfCall Q (work r)
+    go (R.Settled row turns) own = settled row turns own
+    go R.Unsettled own = unsettled
 
 -- ---- above the ground nothing depends on the carried height
 pub above : (antenna : Antenna) (fmc delta : Float) (e : Elevation) (height : Float) → le delta (num 0 1) ≡ false
@@ -47,12 +57,7 @@ below antenna fmc delta e height t = rw t refl
 pub left-above : (antenna : Antenna) (fmc delta : Float) (e : Elevation)
     → OfCall (λ call. call .height ≡ heightFor (antenna .kop) (antenna .leg) (waveOf fmc)) (aboveGround antenna fmc delta e)
 unfolding aboveGround
-left-above antenna fmc delta e = go (rowOf antenna fmc) (row-own antenna fmc)
-  where
-    go : (r : RowAnswer) → OfRow (λ row. (row .kop ≡ antenna .kop) × (row .x ≡ heightFor (antenna .kop) (antenna .leg) (waveOf fmc))) r
-        → OfCall (λ call. call .height ≡ heightFor (antenna .kop) (antenna .leg) (waveOf fmc)) (aboveFrom antenna delta e r)
-    go (R.Settled row turns) own = own .1
-    go R.Unsettled own = tt
+left-above antenna fmc delta e = from-row antenna fmc (aboveFrom antenna delta e) _ (λ row turns own. own .1) tt
 
 -- ---- the ground outside types 3 and 4: -30 plus the type's efficiency at the carried height, which stays
 pub ground-value : (antenna : Antenna) (fmc : Float) (e : Elevation) (height : Float) → blendsWithZenith (antenna .kop) ≡ false
@@ -85,12 +90,7 @@ zenith-left antenna fmc u = rw (other-types (antenna .kop) u) refl
 pub zenith-ground-left : (antenna : Antenna) (fmc : Float) (e : Elevation) (height : Float) → blendsWithZenith (antenna .kop) ≡ true
     → OfCall (λ call. call .height ≡ num 1 1) (atGround antenna fmc e height)
 unfolding atGround
-zenith-ground-left antenna fmc e height u = rw u (go (rowOf antenna fmc) (row-own antenna fmc))
-  where
-    go : (r : RowAnswer) → OfRow (λ row. (row .kop ≡ antenna .kop) × (row .x ≡ heightFor (antenna .kop) (antenna .leg) (waveOf fmc))) r
-        → OfCall (λ call. call .height ≡ num 1 1) (groundFrom antenna e height r)
-    go (R.Settled row turns) own = own .1 ∙ zenith-left antenna fmc u
-    go R.Unsettled own = tt
+zenith-ground-left antenna fmc e height u = rw u (from-row antenna fmc (groundFrom antenna e height) _ (λ row turns own. own .1 ∙ zenith-left antenna fmc u) tt)
 
 pub zenith-ground-same : (antenna : Antenna) (fmc : Float) (e : Elevation) (h h′ : Float) → blendsWithZenith (antenna .kop) ≡ true → atGround antenna fmc e h ≡ atGround antenna fmc e h′
 unfolding atGround
@@ -124,10 +124,7 @@ cell-floor P.Other row azimuth delta e t = floor-rule (row .kop) _ (row .eff) (r
 pub floor-above : (antenna : Antenna) (fmc delta : Float) (e : Elevation) → isType (antenna .kop) 2 ≡ false → blendsWithZenith (antenna .kop) ≡ false
     → OfCall (λ call. AboveFloor (call .gain) (call .efficiency)) (aboveGround antenna fmc delta e)
 unfolding aboveGround cellGain cellOf
-floor-above antenna fmc delta e t u = go (rowOf antenna fmc) (row-own antenna fmc)
-  where
-    go : (r : RowAnswer) → OfRow (λ row. (row .kop ≡ antenna .kop) × (row .x ≡ heightFor (antenna .kop) (antenna .leg) (waveOf fmc))) r
-        → OfCall (λ call. AboveFloor (call .gain) (call .efficiency)) (aboveFrom antenna delta e r)
-    go (R.Settled row turns) own =
-        rw (ap blendsWithZenith (own .0) ∙ u) (cell-floor (row .pattern) row (antenna .azimuth) delta e (ap (λ (k : ℤ). isType k 2) (own .0) ∙ t))
-    go R.Unsettled own = tt
+floor-above antenna fmc delta e t u =
+    from-row antenna fmc (aboveFrom antenna delta e) _
+    (λ row turns own. rw (ap blendsWithZenith (own .0) ∙ u) (cell-floor (row .pattern) row (antenna .azimuth) delta e (ap (λ (k : ℤ). isType k 2) (own .0) ∙ t)))
+    tt

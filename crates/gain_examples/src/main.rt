@@ -1,5 +1,7 @@
 // Document 01's examples of gain calls. A line each: refusal, 0 if accepted (3 columns); gain,
 // efficiency and height left in hundredths (8 each); the call. The height carried is 0.
+// Then the turns that the two series of the integrals take, after refusal 11 or 0 (3 columns each).
+use integrals::Computed;
 use ioncap::Gain;
 use ioncap::GainCall;
 use libc::STDOUT_FILENO;
@@ -18,6 +20,12 @@ fn print_value(x: f32) {
     io::write_all(STDOUT_FILENO, &field);
 }
 
+fn print_text(text: &[u8]) {
+    io::write_all(STDOUT_FILENO, b"  ");
+    io::write_all(STDOUT_FILENO, text);
+    io::write_all(STDOUT_FILENO, b"\n");
+}
+
 fn show(call: GainCall, text: &[u8]) {
     let answer = ioncap::gain_of(call, 0.0);
     match answer {
@@ -33,9 +41,7 @@ fn show(call: GainCall, text: &[u8]) {
         }
     }
     print_value(ioncap::height_left(answer, 0.0));
-    io::write_all(STDOUT_FILENO, b"  ");
-    io::write_all(STDOUT_FILENO, text);
-    io::write_all(STDOUT_FILENO, b"\n");
+    print_text(text);
 }
 
 // Conductivity 0.01 over dielectric constant 4.
@@ -189,6 +195,32 @@ fn limits() {
     limit(11, b"1000 MHz");
 }
 
+fn show_turns(x: f32, text: &[u8]) {
+    match integrals::integrals_of(x) {
+        Computed::Settled(_, turns) => {
+            print_number(0);
+            print_number(turns.ci);
+            print_number(turns.si);
+        }
+        Computed::Unsettled => {
+            print_number(11);
+            print_number(0);
+            print_number(0);
+        }
+    }
+    print_text(text);
+}
+
+// Within `cisi`'s limits three turns suffice; only below 0 are there eight, and more.
+fn series() {
+    show_turns(0.0, b"turns at 0");
+    show_turns(0.9, b"turns at 0.9");
+    show_turns(1.0, b"no series at 1");
+    show_turns(-4.5, b"eight turns at -4.5");
+    show_turns(-5.0, b"the sine's series unsettled at -5");
+    show_turns(-6.0, b"both unsettled at -6");
+}
+
 fn main() {
     frequencies();
     bays();
@@ -197,4 +229,5 @@ fn main() {
     elements();
     floors();
     limits();
+    series();
 }

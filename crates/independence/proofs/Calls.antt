@@ -24,10 +24,29 @@ use Rattle.independence.proofs.Rows.{cleared-length}
 use Rattle.independence.proofs.Verdicts.{passed, none-found}
 use Rattle.independence.proofs.Theorem.{demand3}
 
--- a refusal found, as the last of a list of tests
-pub found-last : (n : ℕ) → cond (not (eqb n 0)) n 0 ≡ n
+-- a refusal found, else r
+abbrev found : ℕ → ℕ → ℕ
+found n r = cond (not (eqb n 0)) n r
+
+pub found-last : (n : ℕ) → found n 0 ≡ n
 found-last zero = refl
 found-last (suc n) = rw (eqb·suc-zero n) refl
+
+-- two refusals, each one a test of its own
+found-both : (n w : ℕ) → (found n 0 ≢ 0 → found n (found w 0) ≡ found n 0) × (found n 0 ≡ 0 → found n (found w 0) ≡ w)
+found-both zero w = (λ p. absurd (p refl), λ p. found-last w)
+found-both (suc n) w = rw (eqb·suc-zero n) (λ p. refl, λ p. let z : ⊥ = omega arith in absurd z)
+
+-- the refusals of the deck and the table, 10, 9 and 7, else r
+abbrev pub deckThen : (a b f : Bool) → ℕ → ℕ
+deckThen a b f r = cond a 10 (cond b 9 (cond f 7 r))
+
+-- as y is to x, so it is after them
+pub deck-then : (a b f : Bool) (x y w : ℕ) → (x ≢ 0 → y ≡ x) × (x ≡ 0 → y ≡ w) → (deckThen a b f x ≢ 0 → deckThen a b f y ≡ deckThen a b f x) × (deckThen a b f x ≡ 0 → deckThen a b f y ≡ w)
+deck-then true b f x y w h = (λ p. refl, λ p. let z : ⊥ = omega arith in absurd z)
+deck-then false true f x y w h = (λ p. refl, λ p. let z : ⊥ = omega arith in absurd z)
+deck-then false false true x y w h = (λ p. refl, λ p. let z : ⊥ = omega arith in absurd z)
+deck-then false false false x y w h = h
 
 -- ---- tables
 table-cleared : (t : List Float) → isTable t ≡ true → refusedTable t ≡ cleared
@@ -82,21 +101,12 @@ module _ (A : Antenna) (L : Laws A) (limit : ℕ) where
   room-malformed d t v p n = room-by (leb limit (d .accepted + d .refused)) d v _ refl p n
 
   -- ---- the verdict is the refusal before the work, or else the filling's
-  -- the tests 10, 9, 7 and the input's, then the filling's refusal w
-  first-of-both : (a b f : Bool) (n w : ℕ)
-      → (cond a 10 (cond b 9 (cond f 7 (cond (not (eqb n 0)) n 0))) ≢ 0 → cond a 10 (cond b 9 (cond f 7 (cond (not (eqb n 0)) n (cond (not (eqb w 0)) w 0)))) ≡ cond a 10 (cond b 9 (cond f 7 (cond (not (eqb n 0)) n 0))))
-      × (cond a 10 (cond b 9 (cond f 7 (cond (not (eqb n 0)) n 0))) ≡ 0 → cond a 10 (cond b 9 (cond f 7 (cond (not (eqb n 0)) n (cond (not (eqb w 0)) w 0)))) ≡ w)
-  first-of-both true b f n w = (λ p. refl, λ p. let z : ⊥ = omega arith in absurd z)
-  first-of-both false true f n w = (λ p. refl, λ p. let z : ⊥ = omega arith in absurd z)
-  first-of-both false false true n w = (λ p. refl, λ p. let z : ⊥ = omega arith in absurd z)
-  first-of-both false false false zero w = (λ p. absurd (p refl), λ p. found-last w)
-  first-of-both false false false (suc n) w = rw (eqb·suc-zero n) (λ p. refl, λ p. let z : ⊥ = omega arith in absurd z)
-
   verdict-of-both : (d : Deck) (c : A .Card) (t : List Float)
       → (refusalBeforeWork A limit d c t ≢ 0 → verdictOn A limit d (record { line = card c; table = t }) ≡ refusalBeforeWork A limit d c t)
       × (refusalBeforeWork A limit d c t ≡ 0 → verdictOn A limit d (record { line = card c; table = t }) ≡ cardRefusal A c (d .height))
   unfolding refusalBeforeWork verdictOn firstRefusal
-  verdict-of-both d c t = first-of-both (leb limit (d .accepted + d .refused)) (not (finite (d .height))) (not (isTable t)) (A .inputRefusal c) (cardRefusal A c (d .height))
+  verdict-of-both d c t =
+      deck-then (leb limit (d .accepted + d .refused)) (not (finite (d .height))) (not (isTable t)) _ _ _ (found-both (A .inputRefusal c) (cardRefusal A c (d .height)))
 
   -- ---- an entry's run by its verdict
   by-verdict : (d : Deck) (e : Entry A) (t′ : List Float) (v : ℕ) (d′ : Deck) → verdictOn A limit d e ≡ v → t′ ≡ tableBy A limit e (d .height) v → d′ ≡ deckBy A limit e d v → EntryDone A limit d e t′ v d′
@@ -121,7 +131,7 @@ module _ (A : Antenna) (L : Laws A) (limit : ℕ) where
   entry-malformed d t t′ v d′ s q r =
       by-refusal d (record { line = malformed; table = t }) t′ v d′ (sym s) (λ z. never (leb limit (d .accepted + d .refused)) (not (finite (d .height))) (not (isTable t)) (sym s ∙ z)) q r
     where
-      never : (a b f : Bool) → _≡_ {A = ℕ} (cond a 10 (cond b 9 (cond f 7 8))) 0 → ⊥
+      never : (a b f : Bool) → deckThen a b f 8 ≡ 0 → ⊥
       never true b f p = omega arith
       never false true f p = omega arith
       never false false true p = omega arith

@@ -19,9 +19,9 @@ use Rattle.independence.specs.Laws.{Fills, Laws}
 use Rattle.independence.specs.Filling.{firstOf, callAt, heightAt, cellsRefusal, rowsRefusal, heightAfter, cardRefusal, rowsOf}
 use Rattle.independence.specs.Deck.{Deck, refusedDeck, fresh, Line, card, malformed, Entry, ownTests, Outcome, verdictOn, deckBy, outcomeOn, deckAfter, run, deckAfterAll, without, acceptedIn, refusedIn}
 use Rattle.independence.specs.Demand3.{lineAt, outcomeAt, cell, Accepted, SameBut, NextAccepted, MayDiffer, carriedAfterRows, carriedAtRow, carriedAfterEntry, carried}
-use Rattle.independence.proofs.Verdicts.{Fit, Passes, verdict-own, own-same, accepted-passes, height-past, fit-after, card-leaves}
+use Rattle.independence.proofs.Verdicts.{Fit, Passes, verdict-own, own-same, height-past, fit-after, card-leaves, last-fills}
 use Rattle.independence.proofs.Runs.{run-length, run-same, run-without, fit-fewer}
-use Rattle.independence.proofs.Rules.{filled-cell, height-shift, carried-shift}
+use Rattle.independence.proofs.Rules.{filled-cell, height-shift, carried-shift, run-accepted}
 use Rattle.independence.proofs.Theorem.{fit-fresh}
 
 order : (a b : ℕ) → (a < b) ⊎ ((a ≡ b) ⊎ (b < a))
@@ -198,18 +198,18 @@ module _ (A : Antenna) (L : Laws A) (limit : ℕ) where
   cardOr c malformed = c
 
   -- the next accepted card is one alone
-  next-place : (es : List (Entry A)) (os : List Outcome) (k j j′ : ℕ) (c c′ : A .Card) → NextAccepted A es os k j c → NextAccepted A es os k j′ c′ → j ≡ j′
-  next-place es os k j j′ c c′ a a′ =
-      elim (order j j′) [
-        | inl l ↦ absurd (a′ .between j (a .after) l (a .accepted .verdict))
-        | inr (inl e) ↦ e
-        | inr (inr l) ↦ absurd (a .between j′ (a′ .after) l (a′ .accepted .verdict))
-      ]
+  module _ (es : List (Entry A)) (os : List Outcome) (k j j′ : ℕ) (c c′ : A .Card) (a : NextAccepted A es os k j c) (a′ : NextAccepted A es os k j′ c′) where
+    next-place : j ≡ j′
+    next-place =
+        elim (order j j′) [
+          | inl l ↦ absurd (a′ .between j (a .after) l (a .accepted .verdict))
+          | inr (inl e) ↦ e
+          | inr (inr l) ↦ absurd (a .between j′ (a′ .after) l (a′ .accepted .verdict))
+        ]
 
-  next-card : (es : List (Entry A)) (os : List Outcome) (k j j′ : ℕ) (c c′ : A .Card) → NextAccepted A es os k j c → NextAccepted A es os k j′ c′ → c ≡ c′
-  unfolding cardOr
-  next-card es os k j j′ c c′ a a′ =
-      ap (cardOr c) (sym (a .accepted .isCard) ∙ ap (lineAt es) (next-place es os k j j′ c c′ a a′) ∙ a′ .accepted .isCard)
+    next-card : c ≡ c′
+    unfolding cardOr
+    next-card = ap (cardOr c) (sym (a .accepted .isCard) ∙ ap (lineAt es) next-place ∙ a′ .accepted .isCard)
 
   pub one-cell : (es : List (Entry A)) (os : List Outcome) (k j j′ i i′ : ℕ) → MayDiffer A es os k j i → MayDiffer A es os k j′ i′ → (j ≡ j′) × (i ≡ i′)
   one-cell es os k j j′ i i′ x x′ = (
@@ -270,12 +270,6 @@ module _ (A : Antenna) (L : Laws A) (limit : ℕ) where
     pub accepted : Accepted A es os i c
     pub between : (n : ℕ) → i < n → n < j → outcomeAt os n .verdict ≢ 0
 
-  accepted-input : (es : List (Entry A)) (d : Deck) (j : ℕ) (c : A .Card) → Accepted A es (run A limit d es) j c → A .inputRefusal c ≡ 0
-  unfolding run outcomeOn
-  accepted-input [] d j c a = let z : ⊥ = omega (arith, a .verdict) in absurd z
-  accepted-input (e ∷ es) d zero c a = accepted-passes A L limit d c (e .table) (subst (λ (l : Line A). verdictOn A limit d (record { line = l; table = e .table }) ≡ 0) (a .isCard) (a .verdict)) .input
-  accepted-input (e ∷ es) d (suc j) c a = accepted-input es (deckAfter A limit d e) j c (record { isCard = a .isCard; verdict = a .verdict })
-
   pub after-last : (es : List (Entry A)) (i j : ℕ) (c : A .Card) → LastAccepted es (run A limit fresh es) i j c → carried A (num 0 1) es (run A limit fresh es) j ≡ heightLeft A c (A .last c)
   unfolding carried
   after-last es i j c a =
@@ -285,7 +279,7 @@ module _ (A : Antenna) (L : Laws A) (limit : ℕ) where
       ap (carried A (num 0 1) es os) (sym at)
       ∙ refused-keep (num 0 1) es os (suc i) n (λ m l k. a .between m l (omega arith))
       ∙ ap₂ (λ (l : Line A) (v : ℕ). carriedAfterEntry A l v (carried A (num 0 1) es os i)) (a .accepted .isCard) (a .accepted .verdict)
-      ∙ card-leaves A L limit c (carried A (num 0 1) es os i) (accepted-input es fresh i c (a .accepted))
+      ∙ card-leaves A L limit c (carried A (num 0 1) es os i) (run-accepted A L limit es fresh i c (a .accepted) .passes .input)
 
   -- 1 after another type, their height in wavelengths at their last MHz after types 2 and 5
   pub one-after-other : (es : List (Entry A)) (i j : ℕ) (c : A .Card) → LastAccepted es (run A limit fresh es) i j c → T (not (carriesHeight (A .typeOf c)))
@@ -302,5 +296,4 @@ module _ (A : Antenna) (L : Laws A) (limit : ℕ) where
   pub left-by-last-cell : (c : A .Card) (h : Float) → Passes A c h → callAt A c (A .last c) (carriedAtRow A c h (A .last c)) 90 .height ≡ heightLeft A c (A .last c)
   left-by-last-cell c h p =
       let r = L .range c (p .input) in
-      let F : Fills A c (A .last c) = record { passes = p .input; low = r .1; high = omega arith } in
-      L .leaves c (A .last c) 89 (heightAt A c (A .last c) (carriedAtRow A c h (A .last c)) 90) F (omega arith) (filled-cell A L limit c h (A .last c) 90 p (r .1) (omega arith) (omega arith) .1)
+      L .leaves c (A .last c) 89 (heightAt A c (A .last c) (carriedAtRow A c h (A .last c)) 90) (last-fills A L limit c (p .input)) (omega arith) (filled-cell A L limit c h (A .last c) 90 p (r .1) (omega arith) (omega arith) .1)

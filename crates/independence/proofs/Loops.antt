@@ -43,17 +43,15 @@ module _ (A : Antenna) (L : Laws A) where
       twice zero = refl
       twice (suc n) = refl
 
-  cells-refusal-is : (c : A .Card) (m : ℕ) (h : Float) (r : ℕ) → ((x : Float) → (A .call c m 0 x .refusal ≡ 0) ⊎ (A .call c m 0 x .refusal ≡ r))
-      → ((d : ℕ) (x : Float) → d < 90 → A .call c m (suc d) x .refusal ≡ r) → (d : ℕ) → d < 90 → cellsRefusal A c m h (suc (suc d)) ≡ r
-  unfolding cellsRefusal heightAt
-  cells-refusal-is c m h r ground above zero l = ap (firstOf (A .call c m 0 h .refusal)) (above 0 (A .call c m 0 h .height) l) ∙ none-or r (A .call c m 0 h .refusal) (ground h)
-  cells-refusal-is c m h r ground above (suc d) l =
-      ap₂ firstOf (cells-refusal-is c m h r ground above d (omega arith)) (above (suc d) (heightAt A c m h (suc (suc d))) l) ∙ none-or r r (inr refl)
+  module _ (c : A .Card) (m : ℕ) (h : Float) (r : ℕ) (ground : (x : Float) → (A .call c m 0 x .refusal ≡ 0) ⊎ (A .call c m 0 x .refusal ≡ r)) (above : (d : ℕ) (x : Float) → d < 90 → A .call c m (suc d) x .refusal ≡ r) where
+    cells-refusal-is : (d : ℕ) → d < 90 → cellsRefusal A c m h (suc (suc d)) ≡ r
+    unfolding cellsRefusal heightAt
+    cells-refusal-is zero l = ap (firstOf (A .call c m 0 h .refusal)) (above 0 (A .call c m 0 h .height) l) ∙ none-or r (A .call c m 0 h .refusal) (ground h)
+    cells-refusal-is (suc d) l = ap₂ firstOf (cells-refusal-is d (omega arith)) (above (suc d) (heightAt A c m h (suc (suc d))) l) ∙ none-or r r (inr refl)
 
-  -- the row part refuses by r (0 if not): so does the row
-  pub row-refusal : (c : A .Card) (m : ℕ) (h : Float) (r : ℕ) → ((x : Float) → (A .call c m 0 x .refusal ≡ 0) ⊎ (A .call c m 0 x .refusal ≡ r))
-      → ((d : ℕ) (x : Float) → d < 90 → A .call c m (suc d) x .refusal ≡ r) → cellsRefusal A c m h 91 ≡ r
-  row-refusal c m h r ground above = cells-refusal-is c m h r ground above 89 (omega arith)
+    -- the row part refuses by r (0 if not): so does the row
+    pub row-refusal : cellsRefusal A c m h 91 ≡ r
+    row-refusal = cells-refusal-is 89 (omega arith)
 
   pub row-start : (c : A .Card) (m : ℕ) (t₁ : List Float) → GainsStored A c m t₁ t₁ 1
   unfolding gainsIn heightAt

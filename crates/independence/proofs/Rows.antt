@@ -153,21 +153,34 @@ module _ (A : Antenna) (L : Laws A) where
       getD-set-other (gainsIn A c m h 91 t) (efficiencyAt m) (gainAt m′ d) (callAt A c m h 90 .efficiency) (num 0 1) (no-efficiency m′ m d top k)
       ∙ gains-other c m h 91 m′ d t l l′ ne (omega arith) k
 
-  pub rows-cell : (c : A .Card) (h : Float) (n i d : ℕ) (t : List Float) → 1 ≤ A .first c → A .first c + n ≤ 31 → d < 91 → length t ≡ 2760 → i < n
-      → cell (rowsIn A c h n t) (gainAt (A .first c + i) d) ≡ callAt A c (A .first c + i) (heightAfter A c h i) d .gain
-  unfolding rowsIn
-  rows-cell c h zero i d t lo top k len l = absurd (not-suc-le-zero l)
-  rows-cell c h (suc n) i d t lo top k len l =
-      elim (below-suc i n l) [
-        | inl p ↦
-            subst
-            (λ (j : ℕ). cell (rowIn A c (A .first c + j) (heightAfter A c h j) (rowsIn A c h n t)) (gainAt (A .first c + i) d) ≡ callAt A c (A .first c + i) (heightAfter A c h i) d .gain)
-            p
-            (row-cell c (A .first c + i) (heightAfter A c h i) d (rowsIn A c h n t) (omega arith) k (rows-length c h n t ∙ len))
-        | inr q ↦
-            row-other c (A .first c + n) (heightAfter A c h n) (A .first c + i) d (rowsIn A c h n t) (omega arith) (omega arith) (omega arith) (omega arith) k
-            ∙ rows-cell c h n i d t lo (omega arith) k len q
-      ]
+  -- after n rows, the place of each of them has the value that its row gives at the height it finds
+  abbrev pub Filled : A .Card → (ℕ → ℕ) → (ℕ → Float → Float) → Type 0
+  Filled c at value =
+      (h : Float) (n i : ℕ) (t : List Float) → 1 ≤ A .first c → A .first c + n ≤ 31 → length t ≡ 2760 → i < n
+      → cell (rowsIn A c h n t) (at (A .first c + i)) ≡ value (A .first c + i) (heightAfter A c h i)
+
+  -- where a row fills its own place and leaves the others'
+  module _ (c : A .Card) (at : ℕ → ℕ) (value : ℕ → Float → Float)
+      (fills : (m : ℕ) (h : Float) (t : List Float) → 1 ≤ m → m ≤ 30 → length t ≡ 2760 → cell (rowIn A c m h t) (at m) ≡ value m h)
+      (leaves : (m : ℕ) (h : Float) (m′ : ℕ) (t : List Float) → 1 ≤ m → m ≤ 30 → 1 ≤ m′ → m′ ≤ 30 → m′ ≢ m → cell (rowIn A c m h t) (at m′) ≡ cell t (at m′)) where
+    pub rows-fill : Filled c at value
+    unfolding rowsIn
+    rows-fill h zero i t lo top len l = absurd (not-suc-le-zero l)
+    rows-fill h (suc n) i t lo top len l =
+        elim (below-suc i n l) [
+          | inl p ↦
+              subst
+              (λ (j : ℕ). cell (rowIn A c (A .first c + j) (heightAfter A c h j) (rowsIn A c h n t)) (at (A .first c + i)) ≡ value (A .first c + i) (heightAfter A c h i)) p
+              (fills (A .first c + i) (heightAfter A c h i) (rowsIn A c h n t) (omega arith) (omega arith) (rows-length c h n t ∙ len))
+          | inr q ↦
+              leaves (A .first c + n) (heightAfter A c h n) (A .first c + i) (rowsIn A c h n t) (omega arith) (omega arith) (omega arith) (omega arith) (omega arith)
+              ∙ rows-fill h n i t lo (omega arith) len q
+        ]
+
+  pub rows-cell : (c : A .Card) (d : ℕ) → d < 91 → Filled c (λ m. gainAt m d) (λ m h. callAt A c m h d .gain)
+  rows-cell c d k =
+      rows-fill c (λ m. gainAt m d) (λ m h. callAt A c m h d .gain) (λ m h t low high long. row-cell c m h d t high k long)
+      (λ m h m′ t low high low′ high′ ne. row-other c m h m′ d t low low′ high′ ne k)
 
   pub rows-other : (c : A .Card) (h : Float) (n m d : ℕ) (t : List Float) → 1 ≤ A .first c → 1 ≤ m → m ≤ 30 → d < 91 → (m < A .first c) ⊎ (A .first c + n ≤ m)
       → cell (rowsIn A c h n t) (gainAt m d) ≡ cell t (gainAt m d)
@@ -275,7 +288,7 @@ module _ (A : Antenna) (L : Laws A) where
       let m = A .first c + 0 in
       let k : 0 < suc n = omega arith in
       let F : Fills A c m = record { passes = p; low = omega arith; high = omega (arith, r) } in
-      let read : (x : Float) → cell (rowsIn A c x (suc n) t) (gainAt m 0) ≡ A .call c m 0 x .gain = λ x. rows-cell c x (suc n) 0 0 t (r .0) (omega (arith, r)) (omega arith) len k in
+      let read : (x : Float) → cell (rowsIn A c x (suc n) t) (gainAt m 0) ≡ A .call c m 0 x .gain = λ x. rows-cell c 0 (omega arith) x (suc n) 0 t (r .0) (omega (arith, r)) len k in
       let ground : A .call c m 0 h .gain ≡ A .call c m 0 h′ .gain = ground-same c m h h′ F (call-accepted c m h 91 0 (row-accepted c h (suc n) 0 e k .1) (omega arith)) other in
       agree-there (rowsIn A c h (suc n) t) (rowsIn A c h′ (suc n) t) (gainAt (A .first c) 0) (num 0 1) (rows-same c h h′ n t (num 0 1) p l e)
       (subst (λ (j : ℕ). cell (rowsIn A c h (suc n) t) (gainAt j 0) ≡ cell (rowsIn A c h′ (suc n) t) (gainAt j 0)) (add-zero (A .first c)) (read h ∙ ground ∙ sym (read h′)))

@@ -47,7 +47,7 @@ module _ (A : Antenna) (L : Laws A) (limit : ℕ) where
       let below : i < n = omega (arith, r) in
       let a = row-accepted A L c h n i (p .calls) below in
       let same = height-carried A L c h i (p .input) (omega arith) (a .0) in (
-        rows-cell A L c h n i d cleared (r .0) (omega (arith, r)) k cleared-length below ∙ ap (λ (x : Float). callAt A c m x d .gain) same,
+        rows-cell A L c d k h n i cleared (r .0) (omega (arith, r)) cleared-length below ∙ ap (λ (x : Float). callAt A c m x d .gain) same,
         subst (λ (x : Float). callAt A c m x d .refusal ≡ 0) same (call-accepted A L c m _ 91 d (a .1) k),
       )
 
@@ -142,8 +142,12 @@ module _ (A : Antenna) (L : Laws A) (limit : ℕ) where
   unfolding outcomeOn
   height-shift d e = height-past A L limit d e
 
-  pub run-accepted : (es : List (Entry A)) (d : Deck) (j : ℕ) (c : A .Card) → Accepted A es (run A limit d es) j c
-      → AcceptedCard A c (carried A (d .height) es (run A limit d es) j) (outcomeAt (run A limit d es) j .table)
+  -- of every card that a run accepts, the height that it finds and its table
+  abbrev pub OfAccepted : (A .Card → Float → List Float → Type 0) → List (Entry A) → Deck → Type 0
+  OfAccepted P es d =
+      (j : ℕ) (c : A .Card) → Accepted A es (run A limit d es) j c → P c (carried A (d .height) es (run A limit d es) j) (outcomeAt (run A limit d es) j .table)
+
+  pub run-accepted : (es : List (Entry A)) (d : Deck) → OfAccepted (AcceptedCard A) es d
   unfolding run carried
   run-accepted [] d j c a = let z : ⊥ = omega (arith, a .verdict) in absurd z
   run-accepted (e ∷ es) d zero c a = card-accepted d e c (a .isCard) (a .verdict)
@@ -154,9 +158,7 @@ module _ (A : Antenna) (L : Laws A) (limit : ℕ) where
       (ap (λ (h : Float). carried A h es (run A limit d′ es) j) (height-shift d e) ∙ carried-shift (d .height) e es o (run A limit d′ es) j)
       (run-accepted es d′ j c (record { isCard = a .isCard; verdict = a .verdict }))
 
-  pub run-rules : (es : List (Entry A)) (d : Deck) (j : ℕ) (c : A .Card) → Accepted A es (run A limit d es) j c
-      → CardRules A c (carried A (d .height) es (run A limit d es) j) (outcomeAt (run A limit d es) j .table)
+  pub run-rules : (es : List (Entry A)) (d : Deck) → OfAccepted (CardRules A) es d
   run-rules es d j c a =
       let x = run-accepted es d j c a in
-      let h = carried A (d .height) es (run A limit d es) j in
-      subst (λ (t : List Float). CardRules A c h t) (sym (x .table)) (table-rules c h (x .passes))
+      rw (x .table) (table-rules c _ (x .passes))

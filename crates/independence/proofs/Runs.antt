@@ -10,7 +10,7 @@ use lib.Ieee.{Float}
 use Rattle.independence.specs.Antenna.{Antenna}
 use Rattle.independence.specs.Laws.{Laws}
 use Rattle.independence.specs.Deck.{Deck, Line, card, malformed, Entry, Outcome, verdictOn, outcomeOn, deckAfter, run, without}
-use Rattle.independence.specs.Demand3.{outcomeAt, cell, Accepted, SameBut, MayDiffer, carriedAfterEntry}
+use Rattle.independence.specs.Demand3.{outcomeAt, cell, SameBut, MayDiffer, carriedAfterEntry}
 use Rattle.independence.proofs.Verdicts.{Fit, accepted-passes, malformed-refused, card-leaves, height-past, fit-after, verdict-same, outcome-same, height-same, DependsOnHeight, entry-same}
 
 -- ---- sameness but for some cells
@@ -30,35 +30,26 @@ module _ (A : Antenna) (limit : ℕ) where
 
 module _ (A : Antenna) (L : Laws A) (limit : ℕ) where
   -- ---- the cell that may differ, one place further on
-  shift-accepted : (e : Entry A) (es : List (Entry A)) (o : Outcome) (os : List Outcome) (j : ℕ) (c : A .Card) → Accepted A es os j c → Accepted A (e ∷ es) (o ∷ os) (suc j) c
-  shift-accepted e es o os j c a = record { isCard = a .isCard; verdict = a .verdict }
+  shift : (e : Entry A) (es : List (Entry A)) (o : Outcome) (os : List Outcome) (k k′ j i : ℕ) → MayDiffer A es os k j i → k′ ≤ suc j → (k′ ≤ 0 → o .verdict ≢ 0) → ((n : ℕ) → k′ ≤ suc n → k ≤ n)
+      → MayDiffer A (e ∷ es) (o ∷ os) k′ (suc j) i
+  shift e es o os k k′ j i x after first past =
+      record {
+        theCard = x .theCard;
+        next = record { after = after; accepted = record { isCard = x .next .accepted .isCard; verdict = x .next .accepted .verdict }; between = earlier };
+        type = x .type;
+        ground = x .ground;
+      }
+    where
+      earlier : (n : ℕ) → k′ ≤ n → n < suc j → outcomeAt (o ∷ os) n .verdict ≢ 0
+      earlier zero l m = first l
+      earlier (suc n) l m = x .next .between n (past n l) (le-of-suc-le-suc m)
 
   -- past an entry before the removed one, and past a refused one after it
   shift-both : (e : Entry A) (es : List (Entry A)) (o : Outcome) (os : List Outcome) (k j i : ℕ) → MayDiffer A es os k j i → MayDiffer A (e ∷ es) (o ∷ os) (suc k) (suc j) i
-  shift-both e es o os k j i x =
-      record {
-        theCard = x .theCard;
-        next = record { after = suc-le-suc (x .next .after); accepted = shift-accepted e es o os j (x .theCard) (x .next .accepted); between = earlier };
-        type = x .type;
-        ground = x .ground;
-      }
-    where
-      earlier : (n : ℕ) → suc k ≤ n → n < suc j → outcomeAt (o ∷ os) n .verdict ≢ 0
-      earlier zero l m = absurd (not-suc-le-zero l)
-      earlier (suc n) l m = x .next .between n (le-of-suc-le-suc l) (le-of-suc-le-suc m)
+  shift-both e es o os k j i x = shift e es o os k (suc k) j i x (suc-le-suc (x .next .after)) (λ l. absurd (not-suc-le-zero l)) (λ n l. le-of-suc-le-suc l)
 
   shift-refused : (e : Entry A) (es : List (Entry A)) (o : Outcome) (os : List Outcome) (j i : ℕ) → o .verdict ≢ 0 → MayDiffer A es os 0 j i → MayDiffer A (e ∷ es) (o ∷ os) 0 (suc j) i
-  shift-refused e es o os j i r x =
-      record {
-        theCard = x .theCard;
-        next = record { after = zero-le; accepted = shift-accepted e es o os j (x .theCard) (x .next .accepted); between = earlier };
-        type = x .type;
-        ground = x .ground;
-      }
-    where
-      earlier : (n : ℕ) → 0 ≤ n → n < suc j → outcomeAt (o ∷ os) n .verdict ≢ 0
-      earlier zero l m = r
-      earlier (suc n) l m = x .next .between n zero-le (le-of-suc-le-suc m)
+  shift-refused e es o os j i r x = shift e es o os 0 0 j i x zero-le (λ l. r) (λ n l. zero-le)
 
   first-exempt : (e : Entry A) (es : List (Entry A)) (o : Outcome) (os : List Outcome) (i : ℕ) → DependsOnHeight A e (o .verdict) i → MayDiffer A (e ∷ es) (o ∷ os) 0 0 i
   first-exempt e es o os i x =
@@ -103,32 +94,34 @@ module _ (A : Antenna) (L : Laws A) (limit : ℕ) where
       same-weaker (DependsOnHeight A e (verdictOn A limit d′ e)) (MayDiffer A (e ∷ es) (run A limit d′ (e ∷ es)) 0 0) (outcomeOn A limit d e) (outcomeOn A limit d′ e)
       (λ i x. first-exempt e es (outcomeOn A limit d′ e) (run A limit (deckAfter A limit d′ e) es) i (subst (λ (v : ℕ). DependsOnHeight A e v i) (sym (outcome-verdict d′ e)) x))
       (entry-same A L limit d d′ (length es) e f f′)
-  run-two (e ∷ es) d d′ f f′ (suc j) =
-      go (verdictOn A limit d e) refl
-      (run-two es (deckAfter A limit d e) (deckAfter A limit d′ e) (fit-after A L limit d (length es) e f) (fit-after A L limit d′ (length es) e f′) j)
+  run-two (e ∷ es) d d′ f f′ (suc j) = go (verdictOn A limit d e) refl (run-two es b b′ g g′ j)
     where
       o : Outcome
-      o = outcomeAt (run A limit (deckAfter A limit d e) es) j
+      o = outcomeOn A limit d′ e
 
-      o′ : Outcome
-      o′ = outcomeAt (run A limit (deckAfter A limit d′ e) es) j
+      b : Deck
+      b = deckAfter A limit d e
+
+      b′ : Deck
+      b′ = deckAfter A limit d′ e
+
+      g : Fit limit b (length es)
+      g = fit-after A L limit d (length es) e f
+
+      g′ : Fit limit b′ (length es)
+      g′ = fit-after A L limit d′ (length es) e f′
 
       same : verdictOn A limit d e ≡ verdictOn A limit d′ e
       same = verdict-same A L limit d d′ (length es) e f f′
 
-      refused : (v : ℕ) → suc v ≡ 0 → ⊥
-      refused v q = omega arith
+      Same : (ℕ → Type 0) → Type 0
+      Same P = SameBut P (outcomeAt (run A limit b es) j) (outcomeAt (run A limit b′ es) j)
 
-      go : (v : ℕ) → verdictOn A limit d e ≡ v → SameBut (MayDiffer A es (run A limit (deckAfter A limit d′ e) es) 0 j) o o′
-          → SameBut (MayDiffer A (e ∷ es) (outcomeOn A limit d′ e ∷ run A limit (deckAfter A limit d′ e) es) 0 (suc j)) o o′
-      go zero p rest =
-          same-equal (MayDiffer A (e ∷ es) (outcomeOn A limit d′ e ∷ run A limit (deckAfter A limit d′ e) es) 0 (suc j)) o o′
-          (ap (λ (os : List Outcome). outcomeAt os j)
-          (run-same es (deckAfter A limit d e) (deckAfter A limit d′ e) (fit-after A L limit d (length es) e f) (fit-after A L limit d′ (length es) e f′) (height-accepted d d′ e p (sym same ∙ p))))
+      go : (v : ℕ) → verdictOn A limit d e ≡ v → Same (MayDiffer A es (run A limit b′ es) 0 j) → Same (MayDiffer A (e ∷ es) (o ∷ run A limit b′ es) 0 (suc j))
+      go zero p rest = same-equal _ _ _ (ap (λ (os : List Outcome). outcomeAt os j) (run-same es b b′ g g′ (height-accepted d d′ e p (sym same ∙ p))))
       go (suc v) p rest =
-          same-weaker (MayDiffer A es (run A limit (deckAfter A limit d′ e) es) 0 j) (MayDiffer A (e ∷ es) (outcomeOn A limit d′ e ∷ run A limit (deckAfter A limit d′ e) es) 0 (suc j)) o o′
-          (λ i x. shift-refused e es (outcomeOn A limit d′ e) (run A limit (deckAfter A limit d′ e) es) j i (λ q. refused v (sym p ∙ same ∙ sym (outcome-verdict d′ e) ∙ q)) x)
-          rest
+          same-weaker _ _ _ _
+          (λ i x. shift-refused e es o (run A limit b′ es) j i (λ q. let z : suc v ≡ 0 = sym p ∙ same ∙ sym (outcome-verdict d′ e) ∙ q in omega arith) x) rest
 
   -- ---- without an entry
   pub fit-fewer : (d : Deck) (m n : ℕ) → m ≤ n → Fit limit d n → Fit limit d m

@@ -103,35 +103,29 @@ module _ (A : Antenna) (L : Laws A) (limit : ℕ) where
   pub own-same : (e : Entry A) (h h′ : Float) → firstRefusal (ownTests A e h) ≡ firstRefusal (ownTests A e h′)
   own-same e h h′ = own-same-line (e .line) (e .table) h h′
 
-  pub verdict-same : (d d′ : Deck) (n : ℕ) (e : Entry A) → Fit limit d (suc n) → Fit limit d′ (suc n) → verdictOn A limit d e ≡ verdictOn A limit d′ e
-  verdict-same d d′ n e f f′ = verdict-own d n e f ∙ own-same e (d .height) (d′ .height) ∙ sym (verdict-own d′ n e f′)
-
   -- ---- the height after an entry is the recursion's, and finite
-  past-line : (l : Line A) (t : List Float) (d : Deck) (v : ℕ) → verdictOn A limit d (record { line = l; table = t }) ≡ v → deckBy A limit (record { line = l; table = t }) d v .height ≡ carriedAfterEntry A l v (d .height)
-  unfolding deckBy refusedDeck
-  past-line (card c) t d zero e =
-      let p = accepted-passes d c t e in
-      height-carried A L c (d .height) (rowsOf A c) (p .input) (omega (arith, L .range c (p .input))) (p .calls)
-  past-line (card c) t d (suc v) e = refl
-  past-line malformed t d zero e = refl
-  past-line malformed t d (suc v) e = refl
-
-  pub height-past : (d : Deck) (e : Entry A) → deckAfter A limit d e .height ≡ carriedAfterEntry A (e .line) (verdictOn A limit d e) (d .height)
-  unfolding deckAfter
-  height-past d e = past-line (e .line) (e .table) d (verdictOn A limit d e) refl
-
   pub card-leaves : (c : A .Card) (h : Float) → A .inputRefusal c ≡ 0 → carriedAfterRows A c h (rowsOf A c) ≡ heightLeft A c (A .last c)
   unfolding carriedAfterRows
   card-leaves c h p = let s = some-rows c p in ap (carriedAfterRows A c h) (s .0) ∙ ap (heightLeft A c) (s .1)
 
-  past-finite : (l : Line A) (t : List Float) (d : Deck) (v : ℕ) → verdictOn A limit d (record { line = l; table = t }) ≡ v → T (finite (d .height)) → T (finite (carriedAfterEntry A l v (d .height)))
-  past-finite (card c) t d zero e f =
-      let p = accepted-passes d c t e .input in
-      let F : Fills A c (A .last c) = record { passes = p; low = L .range c p .1; high = omega arith } in
-      subst (λ (x : Float). T (finite x)) (sym (card-leaves c (d .height) p)) (L .finiteHeight c (A .last c) F)
-  past-finite (card c) t d (suc v) e f = f
-  past-finite malformed t d zero e f = f
-  past-finite malformed t d (suc v) e f = f
+  pub last-fills : (c : A .Card) → A .inputRefusal c ≡ 0 → Fills A c (A .last c)
+  last-fills c p = record { passes = p; low = L .range c p .1; high = omega arith }
+
+  past-line : (l : Line A) (t : List Float) (d : Deck) (v : ℕ) → verdictOn A limit d (record { line = l; table = t }) ≡ v
+      → (deckBy A limit (record { line = l; table = t }) d v .height ≡ carriedAfterEntry A l v (d .height)) × (T (finite (d .height)) → T (finite (carriedAfterEntry A l v (d .height))))
+  unfolding deckBy refusedDeck
+  past-line (card c) t d zero e =
+      let p = accepted-passes d c t e in (
+        height-carried A L c (d .height) (rowsOf A c) (p .input) (omega (arith, L .range c (p .input))) (p .calls),
+        λ f. subst (λ (x : Float). T (finite x)) (sym (card-leaves c (d .height) (p .input))) (L .finiteHeight c (A .last c) (last-fills c (p .input))),
+      )
+  past-line (card c) t d (suc v) e = (refl, λ f. f)
+  past-line malformed t d zero e = (refl, λ f. f)
+  past-line malformed t d (suc v) e = (refl, λ f. f)
+
+  pub height-past : (d : Deck) (e : Entry A) → deckAfter A limit d e .height ≡ carriedAfterEntry A (e .line) (verdictOn A limit d e) (d .height)
+  unfolding deckAfter
+  height-past d e = past-line (e .line) (e .table) d (verdictOn A limit d e) refl .0
 
   -- ---- one entry takes one place
   cond-le : (b : Bool) (n : ℕ) → cond b n (suc n) ≤ suc n
@@ -147,19 +141,11 @@ module _ (A : Antenna) (L : Laws A) (limit : ℕ) where
   unfolding deckAfter
   fit-after d n e f =
       record {
-        height = subst (λ (h : Float). T (finite h)) (sym (height-past d e)) (past-finite (e .line) (e .table) d (verdictOn A limit d e) refl (f .height));
+        height = subst (λ (h : Float). T (finite h)) (sym (height-past d e)) (past-line (e .line) (e .table) d (verdictOn A limit d e) refl .1 (f .height));
         room = room-after e d n (verdictOn A limit d e) (f .room);
       }
 
-  -- ---- an entry on two decks of one height
-  pub outcome-same : (d d′ : Deck) (n : ℕ) (e : Entry A) → Fit limit d (suc n) → Fit limit d′ (suc n) → d .height ≡ d′ .height → outcomeOn A limit d e ≡ outcomeOn A limit d′ e
-  unfolding outcomeOn
-  outcome-same d d′ n e f f′ p = let v = verdict-same d d′ n e f f′ in λ i. record { verdict = v i; table = tableBy A limit e (p i) (v i) }
-
-  pub height-same : (d d′ : Deck) (n : ℕ) (e : Entry A) → Fit limit d (suc n) → Fit limit d′ (suc n) → d .height ≡ d′ .height → deckAfter A limit d e .height ≡ deckAfter A limit d′ e .height
-  height-same d d′ n e f f′ p = height-past d e ∙ ap₂ (carriedAfterEntry A (e .line)) (verdict-same d d′ n e f f′) p ∙ sym (height-past d′ e)
-
-  -- ---- and on two decks of any heights
+  -- ---- a table from two heights
   card-table-length : (c : A .Card) (h : Float) → length (cardTable A c h) ≡ 2760
   card-table-length c h = rows-length A L c h (rowsOf A c) cleared ∙ cleared-length
 
@@ -191,14 +177,27 @@ module _ (A : Antenna) (L : Laws A) (limit : ℕ) where
   tables-line malformed t d h′ zero e = absurd (malformed-refused d t e)
   tables-line l t d h′ (suc v) e = (refl, λ i other. refl)
 
-  pub entry-same : (d d′ : Deck) (n : ℕ) (e : Entry A) → Fit limit d (suc n) → Fit limit d′ (suc n) → SameBut (DependsOnHeight A e (verdictOn A limit d′ e)) (outcomeOn A limit d e) (outcomeOn A limit d′ e)
-  unfolding outcomeOn
-  entry-same d d′ n e f f′ =
-      let same = verdict-same d d′ n e f f′ in
-      let t = tables-line (e .line) (e .table) d (d′ .height) (verdictOn A limit d e) refl in
-      record {
-        verdict = same;
-        length = t .0 ∙ ap (λ (v : ℕ). length (tableBy A limit e (d′ .height) v)) same;
-        cells = λ i other.
-            t .1 i (λ x. other (subst (λ (v : ℕ). DependsOnHeight A e v i) same x)) ∙ ap (λ (v : ℕ). cell (tableBy A limit e (d′ .height) v) i) same;
-      }
+  -- ---- an entry on two decks
+  module _ (d d′ : Deck) (n : ℕ) (e : Entry A) (f : Fit limit d (suc n)) (f′ : Fit limit d′ (suc n)) where
+    pub verdict-same : verdictOn A limit d e ≡ verdictOn A limit d′ e
+    verdict-same = verdict-own d n e f ∙ own-same e (d .height) (d′ .height) ∙ sym (verdict-own d′ n e f′)
+
+    -- of one height
+    pub outcome-same : d .height ≡ d′ .height → outcomeOn A limit d e ≡ outcomeOn A limit d′ e
+    unfolding outcomeOn
+    outcome-same p = λ i. record { verdict = verdict-same i; table = tableBy A limit e (p i) (verdict-same i) }
+
+    pub height-same : d .height ≡ d′ .height → deckAfter A limit d e .height ≡ deckAfter A limit d′ e .height
+    height-same p = height-past d e ∙ ap₂ (carriedAfterEntry A (e .line)) verdict-same p ∙ sym (height-past d′ e)
+
+    -- of any heights
+    pub entry-same : SameBut (DependsOnHeight A e (verdictOn A limit d′ e)) (outcomeOn A limit d e) (outcomeOn A limit d′ e)
+    unfolding outcomeOn
+    entry-same =
+        let t = tables-line (e .line) (e .table) d (d′ .height) (verdictOn A limit d e) refl in
+        record {
+          verdict = verdict-same;
+          length = t .0 ∙ ap (λ (v : ℕ). length (tableBy A limit e (d′ .height) v)) verdict-same;
+          cells = λ i other.
+              t .1 i (λ x. other (subst (λ (v : ℕ). DependsOnHeight A e v i) verdict-same x)) ∙ ap (λ (v : ℕ). cell (tableBy A limit e (d′ .height) v) i) verdict-same;
+        }

@@ -89,11 +89,13 @@ abbrev pub OfRow : (Row → Type 0) → RowAnswer → Type 0
 OfRow P (Settled row turns) = P row
 OfRow P Unsettled = Unit {0}
 
-pub row-own : (antenna : Antenna) (fmc : Float)
-    → OfRow (λ row. (row .kop ≡ antenna .kop) × (row .x ≡ heightFor (antenna .kop) (antenna .leg) (waveOf fmc))) (rowOf antenna fmc)
+abbrev pub Own : Antenna → Float → Row → Type 0
+Own antenna fmc row = (row .kop ≡ antenna .kop) × (row .x ≡ heightFor (antenna .kop) (antenna .leg) (waveOf fmc))
+
+pub row-own : (antenna : Antenna) (fmc : Float) → OfRow (Own antenna fmc) (rowOf antenna fmc)
 unfolding rowOf
 row-own antenna fmc = go (patternOf antenna (waveOf fmc))
   where
-    go : (p : PatternAnswer) → OfRow (λ row. (row .kop ≡ antenna .kop) × (row .x ≡ heightFor (antenna .kop) (antenna .leg) (waveOf fmc))) (rowFrom antenna fmc p)
+    go : (p : PatternAnswer) → OfRow (Own antenna fmc) (rowFrom antenna fmc p)
     go (A.Settled pattern turns) = (refl, refl)
     go A.Unsettled = tt

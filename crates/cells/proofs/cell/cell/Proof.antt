@@ -33,9 +33,7 @@ no-curtain P.Other t row azimuth delta e = refl
 
 returns-2 : tie.Need-returns-2
 unfolding cellOf
-returns-2 c = let s = c .before .before .args in
-    let e : Elevation = record { t = s .t; q = s .q; r = s .r; s = s .s } in
-    (c .power-cell .ensures) ∙ no-curtain (s .row .pattern) (c .before .match .keys2) (s .row) (s .azimuth) (s .delta) e
+returns-2 c = let s = c .before .before .args in c .power-cell .ensures ∙ no-curtain (s .row .pattern) (c .before .match .keys2) _ _ (s .delta) _
 
 pub cell-spec : {M : Type 1} → statement M
 cell-spec =

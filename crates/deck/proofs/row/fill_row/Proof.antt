@@ -1,7 +1,7 @@
-use mathlib.Core.Path.{sym, _∙_}
+use mathlib.Core.Path.{_≡_, sym, _∙_}
 use Prim.Native.Nat.{_-_, _*_}
 use native.Mathlib.Omega.{arith}
-use lib.ListN.{length-set}
+use lib.ListN.{length, set, length-set}
 use mir.Syntax.{w32}
 use mir.ValLaws.{toZ-ofZ}
 use Rattle.deck.proofs.Elevations.{column-read}
@@ -13,29 +13,35 @@ use Rattle.deck.proofs.row.fill_row.Tie as tie
 returns : tie.Need-returns
 returns c = row-unsettled _ _ _ _ _ (sym (c .before .before .row-of .ensures .0) ∙ c .enum-told .given .1)
 
+ground-stored : (c : tie.After-ground-cell) → let s = c .before .before .before .before .before .before .before .before .before .before .before .before .before .before .before .args in length (set (s .table .now) ((s .m - 1) * 91) (c .ground-cell .result)) ≡ length (s .table .now)
+ground-stored c = simp length-set
+
+above-stored : (c : tie.After-fill-above) → length (c .fill-above .last .1 .1 .1 .1 .1 .1 .1 .0) ≡ length (c .before .before .before .before .before .before .before .before .before .before .before .before .before .before .before .before .before .args .table .now)
+above-stored c = c .fill-above .ensures .1 ∙ ground-stored (c .before .before)
+
 sub-table : tie.Need-sub-table
-sub-table c = omega (arith, c .before .before .before .before .before .before .before .before .before .before .before .before .before .before .before .pre .0, c .before .before .before .before .before .before .before .before .before .before .before .before .before .before .before .pre .1, c .before .before .before .before .before .before .before .before .before .before .before .before .before .before .before .pre .2)
+sub-table c = c .before .before .before .before .before .before .before .before .before .before .before .before .before .before .before .pre .1
 
 slice-write-table : tie.Need-slice-write-table
-slice-write-table c = omega (arith, c .before .before .before .before .before .before .before .before .before .before .before .before .before .before .before .pre .0, c .before .before .before .before .before .before .before .before .before .before .before .before .before .before .before .pre .1, c .before .before .before .before .before .before .before .before .before .before .before .before .before .before .before .pre .2)
+slice-write-table c = let p = c .before .before .before .before .before .before .before .before .before .before .before .before .before .before .before .pre in omega (arith, p .0, p .1, p .2)
 
 fill-above-requires : tie.Need-fill-above-requires
-fill-above-requires c κs = (length-set (c .before .before .before .before .before .before .before .before .before .before .before .before .before .before .before .before .args .table .now) ((c .before .before .before .before .before .before .before .before .before .before .before .before .before .before .before .before .args .m - 1) * 91) (c .before .ground-cell .result) ∙ c .before .before .before .before .before .before .before .before .before .before .before .before .before .before .before .before .pre .0, c .before .before .before .before .before .before .before .before .before .before .before .before .before .before .before .before .pre .1, c .before .before .before .before .before .before .before .before .before .before .before .before .before .before .before .before .pre .2, c .before .before .before .before .before .before .before .before .before .before .before .before .before .before .before .before .pre .3)
+fill-above-requires c κs = let p = c .before .before .before .before .before .before .before .before .before .before .before .before .before .before .before .before .pre in (ground-stored (c .before) ∙ p .0, p .1, p .2, p .3)
 
 sub-table-2 : tie.Need-sub-table-2
-sub-table-2 c = omega (arith, c .before .before .before .before .before .before .before .before .before .before .before .before .before .before .before .before .before .before .before .pre .0, c .before .before .before .before .before .before .before .before .before .before .before .before .before .before .before .before .before .before .before .pre .1, c .before .before .before .before .before .before .before .before .before .before .before .before .before .before .before .before .before .before .before .pre .2)
+sub-table-2 c = c .before .before .before .before .before .before .before .before .before .before .before .before .before .before .before .before .before .before .before .pre .1
 
 add-table : tie.Need-add-table
-add-table c = omega (arith, c .before .before .before .before .before .before .before .before .before .before .before .before .before .before .before .before .before .before .before .pre .0, c .before .before .before .before .before .before .before .before .before .before .before .before .before .before .before .before .before .before .before .pre .1, c .before .before .before .before .before .before .before .before .before .before .before .before .before .before .before .before .before .before .before .pre .2)
+add-table c = omega (arith, c .before .before .before .before .before .before .before .before .before .before .before .before .before .before .before .before .before .before .before .pre .2)
 
 mul-table-3 : tie.Need-mul-table-3
-mul-table-3 c = omega (arith, c .before .before .before .before .before .before .before .before .before .before .before .before .before .before .before .before .before .before .before .pre .0, c .before .before .before .before .before .before .before .before .before .before .before .before .before .before .before .before .before .before .before .pre .1, c .before .before .before .before .before .before .before .before .before .before .before .before .before .before .before .before .before .before .before .pre .2)
+mul-table-3 c = omega (arith, c .before .before .before .before .before .before .before .before .before .before .before .before .before .before .before .before .before .before .before .pre .2)
 
 slice-write-table-2 : tie.Need-slice-write-table-2
-slice-write-table-2 c = omega (arith, c .before .before .before .before .before .before .before .before .before .before .before .before .before .before .before .before .before .before .before .pre .0, c .before .before .before .before .before .before .before .before .before .before .before .before .before .before .before .before .before .before .before .pre .1, c .before .before .before .before .before .before .before .before .before .before .before .before .before .before .before .before .before .before .before .pre .2, c .before .before .fill-above .ensures .1 ∙ length-set (c .before .before .before .before .before .before .before .before .before .before .before .before .before .before .before .before .before .before .before .args .table .now) ((c .before .before .before .before .before .before .before .before .before .before .before .before .before .before .before .before .before .before .before .args .m - 1) * 91) (c .before .before .before .before .ground-cell .result))
+slice-write-table-2 c = let p = c .before .before .before .before .before .before .before .before .before .before .before .before .before .before .before .before .before .before .before .pre in omega (arith, p .0, p .2, above-stored (c .before .before))
 
 same-length : tie.Need-same-length
-same-length c = search (needs, c .before .before .fill-above .ensures .1 ∙ length-set (c .before .before .before .before .before .before .before .before .before .before .before .before .before .before .before .before .before .before .before .args .table .now) ((c .before .before .before .before .before .before .before .before .before .before .before .before .before .before .before .before .before .before .before .args .m - 1) * 91) (c .before .before .before .before .ground-cell .result))
+same-length c = search (needs, above-stored (c .before .before))
 
 returns-2 : tie.Need-returns-2
 returns-2 c =

@@ -1,31 +1,24 @@
-use mathlib.Core.Path.{_≡_, ap, _∙_}
-use lib.IntN.{ℤ}
+use mathlib.Core.Path.{_≡_}
+use mathlib.Core.Bool.{cond}
 use mir.Syntax.{w32}
 use mir.ValLaws.{toZ-ofZ}
 use Rattle.finish.specs.Finish.{groundOf}
-use Rattle.cells.specs.Cell.{blendsWithZenith}
+use Rattle.cells.specs.Cell.{blendOf}
+use Rattle.cells.proofs.Blends.{blends-read}
 use Rattle.deck.specs.Row.{groundCell}
 use borrow.Author.Needs.{needs}
 use Rattle.deck.proofs.row.ground_cell.Statement.{statement}
 use Rattle.deck.proofs.row.ground_cell.Tie as tie
 
-returns : tie.Need-returns
+by-test : (c : tie.After-blends-with-zenith) → let s = c .before .before .args in let low = c .before .ground-gain .result in
+    groundCell (s .kop) (s .zenith) (s .e) (s .height) ≡ cond (c .blends-with-zenith .result) (blendOf (s .e) (s .zenith) (low .gain)) (low .gain)
 unfolding groundCell
-returns c = let s = c .before .before .before .before .args in
-    let back = toZ-ofZ w32 (s .kop) (search needs) in
-    let up : c .before .before .blends-with-zenith .result ≡ blendsWithZenith (s .kop) = c .before .before .blends-with-zenith .ensures ∙ ap blendsWithZenith back in
-    let low : c .before .before .before .ground-gain .result ≡ groundOf (s .kop) (s .height) = c .before .before .before .ground-gain .ensures ∙ ap (λ (k : ℤ). groundOf k (s .height)) back in
-    rw (← up, c .before .if1 .taken, ← low) (c .blend .ensures)
-
-returns-2 : tie.Need-returns-2
-unfolding groundCell
-returns-2 c = let s = c .before .before .before .args in
-    let back = toZ-ofZ w32 (s .kop) (search needs) in
-    let up : c .before .blends-with-zenith .result ≡ blendsWithZenith (s .kop) = c .before .blends-with-zenith .ensures ∙ ap blendsWithZenith back in
-    let low : c .before .before .ground-gain .result ≡ groundOf (s .kop) (s .height) = c .before .before .ground-gain .ensures ∙ ap (λ (k : ℤ). groundOf k (s .height)) back in
-    rw (← up, c .if1 .left, ← low)
+by-test c = let s = c .before .before .args in
+    let low : c .before .ground-gain .result ≡ groundOf (s .kop) (s .height) = rw (toZ-ofZ w32 (s .kop) (search needs)) at (c .before .ground-gain .ensures) in
+    rw (← low, ← blends-read (s .kop) (search needs) (c .blends-with-zenith .ensures))
 
 pub ground-cell-spec : {M : Type 1} → statement M
 ground-cell-spec =
     tie.close
-    (tie.spec (λ c κs. search needs) (λ c κs. search needs) (λ c κs. search needs) returns returns-2)
+    (tie.spec (λ c κs. search needs) (λ c κs. search needs) (λ c κs. search needs)
+    (λ c. rw (by-test (c .before .before), c .before .if1 .taken) (c .blend .ensures)) (λ c. rw (by-test (c .before), c .if1 .left)))

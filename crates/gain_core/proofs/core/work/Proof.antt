@@ -1,6 +1,5 @@
-use mathlib.Core.Path.{_≡_, refl, sym, ap, _∙_}
+use mathlib.Core.Path.{_≡_, refl, sym, _∙_}
 use mathlib.Core.Bool.{Bool, true, false, not, _&&_, true≢false}
-use lib.IntN.{ℤ}
 use lib.Ieee.{Float, le, round, ofBits}
 use mir.Syntax.{w32}
 use mir.ValLaws.{toZ-ofZ}
@@ -54,37 +53,26 @@ module _ (antenna : Antenna) (fmc delta : Float) (e : Elevation) (height : Float
     unfolding workOf aboveGround
     above a zenith gain u g = rw (a, r, ← u, ← g)
 
+without : (c : tie.After-without-row) → let s = c .before .before .args in c .without-row .result ≡ (le (s .delta) (num 0 1) && not (blendsWithZenith (s .antenna .kop)))
+unfolding round ofBits
+without c = rw (toZ-ofZ w32 (c .before .before .args .antenna .kop) (search needs)) at (c .without-row .ensures)
+
 returns : tie.Need-returns
 unfolding round ofBits
-returns c =
-    let s = c .before .before .before .before .before .args in
-    let back = toZ-ofZ w32 (s .antenna .kop) (search needs) in
-    let w : c .before .before .before .without-row .result ≡ (le (s .delta) (num 0 1) && not (blendsWithZenith (s .antenna .kop))) = c .before .before .before .without-row .ensures ∙ ap (λ (k : ℤ). le (s .delta) (num 0 1) && not (blendsWithZenith k)) back in
-    let low : c .ground-gain .result ≡ groundOf (s .antenna .kop) (s .height) = c .ground-gain .ensures ∙ ap (λ (k : ℤ). groundOf k (s .height)) back in
-    all-answers (s .antenna) (s .fmc) (s .e) (s .delta) (s .height) _ (low-only (s .antenna) (s .fmc) (s .delta) (s .e) (s .height) _ _ refl refl (sym w ∙ c .before .before .if1 .taken) _ low)
+returns c = all-answers _ _ _ _ _ _ (low-only _ _ _ _ _ _ _ refl refl (sym (without (c .before .before .before)) ∙ c .before .before .if1 .taken) _ (rw (toZ-ofZ w32 (c .before .before .before .before .before .args .antenna .kop) (search needs)) at (c .ground-gain .ensures)))
 
 returns-2 : tie.Need-returns-2
-unfolding round ofBits
-returns-2 c =
-    let s = c .before .before .before .before .before .before .args in
-    let back = toZ-ofZ w32 (s .antenna .kop) (search needs) in
-    let w : c .before .before .before .before .without-row .result ≡ (le (s .delta) (num 0 1) && not (blendsWithZenith (s .antenna .kop))) = c .before .before .before .before .without-row .ensures ∙ ap (λ (k : ℤ). le (s .delta) (num 0 1) && not (blendsWithZenith k)) back in
-    all-answers (s .antenna) (s .fmc) (s .e) (s .delta) (s .height) _ (no-row (s .antenna) (s .fmc) (s .delta) (s .e) (s .height) _ _ refl refl (sym w ∙ c .before .before .before .if1 .left) (sym (c .before .before .row-of .ensures .0) ∙ c .enum-told .given .1))
+returns-2 c = all-answers _ _ _ _ _ _ (no-row _ _ _ _ _ _ _ refl refl (sym (without (c .before .before .before .before)) ∙ c .before .before .before .if1 .left) (sym (c .before .before .row-of .ensures .0) ∙ c .enum-told .given .1))
 
 returns-3 : tie.Need-returns-3
 unfolding round ofBits
 returns-3 c =
-    let s = c .before .before .before .before .before .before .before .before .before .before .before .before .args in
-    let back = toZ-ofZ w32 (s .antenna .kop) (search needs) in
-    let w : c .before .before .before .before .before .before .before .before .before .before .without-row .result ≡ (le (s .delta) (num 0 1) && not (blendsWithZenith (s .antenna .kop))) = c .before .before .before .before .before .before .before .before .before .before .without-row .ensures ∙ ap (λ (k : ℤ). le (s .delta) (num 0 1) && not (blendsWithZenith k)) back in
-    let low : c .before .before .ground-gain2 .result ≡ groundOf (s .antenna .kop) (s .height) = c .before .before .ground-gain2 .ensures ∙ ap (λ (k : ℤ). groundOf k (s .height)) back in
-    all-answers (s .antenna) (s .fmc) (s .e) (s .delta) (s .height) _ (at-zenith (s .antenna) (s .fmc) (s .delta) (s .e) (s .height) _ _ (sym (c .before .before .before .before .before .before .before .before .row-of .ensures .0) ∙ c .before .before .before .before .before .before .row .given .1) _ (c .before .before .before .before .if2 .taken) refl (rw (c .before .before .before .before .if2 .taken) at (sym w ∙ c .before .before .before .before .before .before .before .before .before .if1 .left)) _ _ _ low (c .before .zenith-gain .ensures) (c .blend .ensures))
+    let low = c .before .before .before .before .if2 .taken in
+    all-answers _ _ _ _ _ _ (at-zenith _ _ _ _ _ _ _ (sym (c .before .before .before .before .before .before .before .before .row-of .ensures .0) ∙ c .before .before .before .before .before .before .row .given .1) _ low refl (rw low at (sym (without (c .before .before .before .before .before .before .before .before .before .before)) ∙ c .before .before .before .before .before .before .before .before .before .if1 .left)) _ _ _ (rw (toZ-ofZ w32 (c .before .before .before .before .before .before .before .before .before .before .before .before .args .antenna .kop) (search needs)) at (c .before .before .ground-gain2 .ensures)) (c .before .zenith-gain .ensures) (c .blend .ensures))
 
 returns-4 : tie.Need-returns-4
 unfolding round ofBits
-returns-4 c =
-    let s = c .before .before .before .before .before .before .before .before .before .before .args in
-    all-answers (s .antenna) (s .fmc) (s .e) (s .delta) (s .height) _ (above (s .antenna) (s .fmc) (s .delta) (s .e) (s .height) _ _ (sym (c .before .before .before .before .before .before .row-of .ensures .0) ∙ c .before .before .before .before .row .given .1) (c .before .before .if2 .left) _ _ (c .before .zenith-gain-for .ensures) (c .cell-gain .ensures))
+returns-4 c = all-answers _ _ _ _ _ _ (above _ _ _ _ _ _ _ (sym (c .before .before .before .before .before .before .row-of .ensures .0) ∙ c .before .before .before .before .row .given .1) (c .before .before .if2 .left) _ _ (c .before .zenith-gain-for .ensures) (c .cell-gain .ensures))
 
 pub work-spec : {M : Type 1} → statement M
 work-spec =
