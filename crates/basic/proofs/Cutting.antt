@@ -6,7 +6,7 @@ use native.Mathlib.Omega.{arith}
 use native.Mathlib.Nat.{zero-mul, div-lt-iff-lt-mul, le-div-iff-mul-le}
 use borrow.Author.Tests.{ltb-true, ltb-false, lt-ltb}
 use lib.Dec.{T, ltb}
-use lib.IntN.{pos, negsuc, negℤ}
+use lib.IntN.{ℤ, pos, negsuc, negℤ}
 use lib.Ieee.{Float, nan, inf, fin, up, down, lt, le, eq, toSigned}
 use lib.Ieee.Fits.{down-pos}
 use Rattle.single.proofs.Booleans.{holds, or-left}
@@ -49,26 +49,26 @@ min-high w a h = omega arith
 some : (a d : ℕ) → 0 < d → ltb 0 (a + 1 * 2 ^ 31 * d) ≡ true
 some a d D = lt-ltb 0 (a + 1 * 2 ^ 31 * d) (omega arith)
 
+-- from 2 ^ 31 on
+beyond : (m : ℕ) (e : ℤ) → ltb (m * up e * 1) (1 * 2 ^ 31 * down e) ≡ false → (0 < m * up e) × (2147483648 ≤ m * up e / down e)
+beyond m e h =
+    let l : 1 * 2 ^ 31 * down e ≤ m * up e * 1 = ltb-false (m * up e * 1) (1 * 2 ^ 31 * down e) h in
+    (omega (arith, down-pos e), le-div-iff-mul-le {k = down e} {x = 2147483648} {y = m * up e} (down-pos e) .1 (omega arith))
+
 pub cut-high : (x : Float) → le low x ≡ true → lt x high ≡ false → pos 2147483647 ≡ cutToward x
 unfolding cutToward toSigned le lt eq
 cut-high nan h g = absurd (holds h)
 cut-high (inf true) h g = absurd (holds h)
 cut-high (inf false) h g = refl
 cut-high (fin true m e) h g = absurd (true≢false (sym (some (m * up e * 1) (down e) (down-pos e)) ∙ g))
-cut-high (fin false m e) h g =
-    let l : 1 * 2 ^ 31 * down e ≤ m * up e * 1 = ltb-false (m * up e * 1) (1 * 2 ^ 31 * down e) g in
-    let w : 2147483648 ≤ m * up e / down e = le-div-iff-mul-le {k = down e} {x = 2147483648} {y = m * up e} (down-pos e) .1 (omega arith) in
-    ap pos (min-high (m * up e / down e) 2147483647 (omega arith))
+cut-high (fin false m e) h g = ap pos (min-high (m * up e / down e) 2147483647 (omega (arith, beyond m e g .1)))
 
 pub cut-low : (x : Float) → le low x ≡ false → lt x none ≡ true → negsuc 2147483647 ≡ cutToward x
 unfolding cutToward toSigned le lt eq
 cut-low nan h g = absurd (holds g)
 cut-low (inf true) h g = refl
 cut-low (inf false) h g = absurd (holds g)
-cut-low (fin true m e) h g =
-    let l : 1 * 2 ^ 31 * down e ≤ m * up e * 1 = ltb-false (m * up e * 1) (1 * 2 ^ 31 * down e) (or-left _ _ h) in
-    let w : 2147483648 ≤ m * up e / down e = le-div-iff-mul-le {k = down e} {x = 2147483648} {y = m * up e} (down-pos e) .1 (omega arith) in
-    ap (λ (k : ℕ). negℤ (pos k)) (min-high (m * up e / down e) 2147483648 w)
+cut-low (fin true m e) h g = ap (λ (k : ℕ). negℤ (pos k)) (min-high (m * up e / down e) 2147483648 (beyond m e (or-left _ _ h) .1))
 cut-low (fin false m e) h g = absurd (let z : m * up e * 1 < 0 * down e = ltb-true (m * up e * 1) (0 * down e) g in let y : 0 * down e ≡ 0 = zero-mul (down e) in omega arith)
 
 pub cut-nan : (x : Float) → le low x ≡ false → lt x none ≡ false → pos 0 ≡ cutToward x
@@ -76,9 +76,5 @@ unfolding cutToward toSigned le lt eq
 cut-nan nan h g = refl
 cut-nan (inf true) h g = absurd (subst T g tt)
 cut-nan (inf false) h g = absurd (subst T h tt)
-cut-nan (fin true m e) h g =
-    absurd (let z : m * up e * 1 + 0 * down e ≤ 0 = ltb-false 0 (m * up e * 1 + 0 * down e) g in
-    let l : 1 * 2 ^ 31 * down e ≤ m * up e * 1 = ltb-false (m * up e * 1) (1 * 2 ^ 31 * down e) (or-left _ _ h) in
-    let d : 0 < down e = down-pos e in
-    omega arith)
+cut-nan (fin true m e) h g = absurd (let z : m * up e * 1 + 0 * down e ≤ 0 = ltb-false 0 (m * up e * 1 + 0 * down e) g in omega (arith, beyond m e (or-left _ _ h) .0))
 cut-nan (fin false m e) h g = absurd (let z : 1 * 2 ^ 31 * down e + m * up e * 1 ≤ 0 = ltb-false 0 (1 * 2 ^ 31 * down e + m * up e * 1) (or-left _ _ h) in let d : 0 < down e = down-pos e in omega arith)

@@ -9,6 +9,7 @@ use lib.Seq.{length-take-le}
 use Rattle.listing.specs.declared.session.Session as S
 use Rattle.listing.specs.declared.session.Stepped as D
 use Rattle.listing.specs.Steps.{StepDone}
+use Rattle.listing.proofs.Lengths.{SameLengths}
 use Rattle.listing.proofs.Ready.{ready-from}
 use Rattle.listing.proofs.Progress.{moves}
 use Rattle.listing.specs.Ready.{Ready}
@@ -17,9 +18,7 @@ use Rattle.listing.specs.Ready.{Ready}
 pub record Listing (piece line₀ : List ℕ) (table₀ : List Float) (out₀ line : List ℕ) (table : List Float) (out : List ℕ) (at used : ℕ) : Type 0 where
   pub kept : Ready line table out at
   pub within : used ≤ length piece
-  pub line-same : length line ≡ length line₀
-  pub table-same : length table ≡ length table₀
-  pub out-same : length out ≡ length out₀
+  pub lengths : SameLengths line₀ table₀ out₀ line table out
 
 pub record Advance (piece out : List ℕ) (used : ℕ) (r : D.Stepped) : Type 0 where
   pub some : 0 < r .used
@@ -44,7 +43,5 @@ advance s line piece table out at used line′ table′ out′ r b h x =
 -- over the reads
 pub record Running (line₀ input₀ : List ℕ) (table₀ : List Float) (out₀ line input : List ℕ) (table : List Float) (out : List ℕ) (at : ℕ) : Type 0 where
   pub kept : Ready line table out at
-  pub line-same : length line ≡ length line₀
-  pub table-same : length table ≡ length table₀
-  pub out-same : length out ≡ length out₀
+  pub lengths : SameLengths line₀ table₀ out₀ line table out
   pub input-same : length input ≡ length input₀

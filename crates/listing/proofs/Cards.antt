@@ -43,10 +43,14 @@ counted-heading n k v = go (ltb n 10000000) refl
 
 -- ---- the line
 module _ (s : S.Session) (q : List ℕ) (t t′ : List Float) (d e g : List ℕ) (a b c n v : ℕ) (k : ℤ) (d′ : D.Deck) (counts : n ≡ counted (s .listed)) where
-  listed-line : k ≡ typeOf (lineIn (lineOf q)) → LineRun (stateOf (s .deck)) (lineOf q) t′ v (stateOf d′) → Appended d a (headingText n k v) e b → Appended e b (rowsBy (lineIn (lineOf q)) t′ v) g c → c ≤ b + 540
+  abbrev Lists : L.Line → Type 0
+  Lists l =
+      k ≡ typeOf (lineIn l) → LineRun (stateOf (s .deck)) l t′ v (stateOf d′) → Appended d a (headingText n k v) e b → Appended e b (rowsBy (lineIn l) t′ v) g c → c ≤ b + 540
       → LineListed s q t t′ d a g (record { session = record { deck = d′; listed = n; held = 0 }; at = c })
+
+  line-of : Lists (lineOf q)
   unfolding lineText cardText afterLine entryOf
-  listed-line p x y z w =
+  line-of p x y z w =
       record {
         state = λ buffer. λ i. record { deck = x .deck i; listed = counts i; held = []; table = x .table i };
         held = refl;
@@ -58,8 +62,5 @@ module _ (s : S.Session) (q : List ℕ) (t t′ : List Float) (d e g : List ℕ)
         within = omega (arith, y .end, heading-length n k v);
       }
 
-  pub line-listed : (l : L.Line) → l ≡ lineOf q → k ≡ typeOf (lineIn l) → LineRun (stateOf (s .deck)) l t′ v (stateOf d′) → Appended d a (headingText n k v) e b → Appended e b (rowsBy (lineIn l) t′ v) g c → c ≤ b + 540
-      → LineListed s q t t′ d a g (record { session = record { deck = d′; listed = n; held = 0 }; at = c })
-  line-listed l r p x y z w =
-      listed-line (subst (λ (u : L.Line). k ≡ typeOf (lineIn u)) r p) (subst (λ (u : L.Line). LineRun (stateOf (s .deck)) u t′ v (stateOf d′)) r x) y
-      (subst (λ (u : L.Line). Appended e b (rowsBy (lineIn u) t′ v) g c) r z) w
+  pub line-listed : (l : L.Line) → l ≡ lineOf q → Lists l
+  line-listed l r = subst Lists (sym r) line-of

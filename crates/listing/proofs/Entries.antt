@@ -1,5 +1,5 @@
 -- A line on the deck: what its table held before doesn't matter, and an accepted line is a card that is not refused. Assumes nothing.
-use mathlib.Core.Path.{_≡_, refl, sym, ap, subst, _∙_}
+use mathlib.Core.Path.{_≡_, refl, sym, ap, _∙_}
 use mathlib.Core.Bool.{Bool, true, false, not, cond}
 use mathlib.Core.List.{List, [], _∷_}
 use Prim.Native.Nat.{ℕ, zero, suc, _+_, _-_, _≤_}
@@ -67,15 +67,8 @@ module _ (d : Deck) (l : Line theAntenna) (t : List Float) (h : length t ≡ 276
       }
 
 -- ---- a line as it was read
-pub card-run : (d : Deck) (l : L.Line) (t t′ : List Float) (v : ℕ) (d′ : Deck) → length t ≡ 2760 → l .«well_formed» ≡ true → EntryDone theAntenna countLimit d (record { line = card (l .fields); table = t }) t′ v d′ → LineRun d l t′ v d′
-card-run d l t t′ v d′ h e x =
-    subst (λ (b : Bool). EntryDone theAntenna countLimit d (record { line = cond b (card (l .fields)) malformed; table = cleared }) t′ v d′) (sym e)
-    (entry-same d (card (l .fields)) t h t′ v d′ x)
-
-pub malformed-run : (d : Deck) (l : L.Line) (t t′ : List Float) (v : ℕ) (d′ : Deck) → length t ≡ 2760 → l .«well_formed» ≡ false → EntryDone theAntenna countLimit d (record { line = malformed; table = t }) t′ v d′ → LineRun d l t′ v d′
-malformed-run d l t t′ v d′ h e x =
-    subst (λ (b : Bool). EntryDone theAntenna countLimit d (record { line = cond b (card (l .fields)) malformed; table = cleared }) t′ v d′) (sym e)
-    (entry-same d malformed t h t′ v d′ x)
+pub line-run : (d : Deck) (l : L.Line) (b : Bool) (t t′ : List Float) (v : ℕ) (d′ : Deck) → length t ≡ 2760 → l .«well_formed» ≡ b → EntryDone theAntenna countLimit d (record { line = cond b (card (l .fields)) malformed; table = t }) t′ v d′ → LineRun d l t′ v d′
+line-run d l b t t′ v d′ h e x = rw e (entry-same d (cond b (card (l .fields)) malformed) t h t′ v d′ x)
 
 pub accepted : (d : Deck) (l : L.Line) (t′ : List Float) (v : ℕ) (d′ : Deck) → LineRun d l t′ v d′ → v ≡ 0 → AcceptedLine l
 unfolding outcomeOn

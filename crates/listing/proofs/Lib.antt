@@ -3,6 +3,7 @@ pub mod Printed
 pub mod Entries
 pub mod Pieces
 pub mod Ready
+pub mod Lengths
 pub mod Cards
 pub mod Sessions
 pub mod Streaming

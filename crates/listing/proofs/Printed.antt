@@ -22,26 +22,27 @@ use Rattle.listing.specs.Text.{lineFeed, headingText, rowText, rowsText}
 use Rattle.listing.proofs.Buffer.{then, same, long}
 
 -- ---- an integer as it is handed on
-pub handed : {d : List ℕ} {a : ℕ} {e : List ℕ} {b : ℕ} (z : ℤ) (w : ℕ) → SFits w64 z → Appended d a (integerField (toZ w64 (ofZ w64 z)) w) e b → Appended d a (integerField z w) e b
-handed z w f x = same x (ap (λ (y : ℤ). integerField y w) (toZ-ofZ w64 z f))
-
-pub unsigned : {d : List ℕ} {a : ℕ} {e : List ℕ} {b : ℕ} (n w : ℕ) → n < 2 ^ 63 → Appended d a (integerField (toZ w64 n) w) e b → Appended d a (integerField (pos n) w) e b
-unsigned n w f x = same x (ap (λ (z : ℤ). integerField z w) (toZ-pos w64 n f))
-
 wider : (z : ℤ) → SFits w32 z → SFits w64 z
 wider z f = record { sfits = lt-of-lt-of-le (f .sfits) (lit≤ tt) }
 
 pub fits32 : (z : ℤ) → SFits w32 z → SFits w64 (toZ w32 (ofZ w32 z))
 fits32 z f = subst (λ (y : ℤ). SFits w64 y) (sym (toZ-ofZ w32 z f)) (wider z f)
 
-pub signed : {d : List ℕ} {a : ℕ} {e : List ℕ} {b : ℕ} (z : ℤ) (w : ℕ) → SFits w32 z → Appended d a (integerField (toZ w64 (ofZ w64 (toZ w32 (ofZ w32 z)))) w) e b → Appended d a (integerField z w) e b
-signed z w f x = handed z w (wider z f) (same x (ap (λ (y : ℤ). integerField (toZ w64 (ofZ w64 y)) w) (toZ-ofZ w32 z f)))
+module _ {d : List ℕ} {a : ℕ} {e : List ℕ} {b : ℕ} where
+  pub handed : (z : ℤ) (w : ℕ) → SFits w64 z → Appended d a (integerField (toZ w64 (ofZ w64 z)) w) e b → Appended d a (integerField z w) e b
+  handed z w f x = same x (ap (λ (y : ℤ). integerField y w) (toZ-ofZ w64 z f))
 
--- a row as the code reads it out of the table
-pub row : {d : List ℕ} {a : ℕ} {e : List ℕ} {b : ℕ} (t : List Float) (m : ℕ)
-    → Appended d a (integerField (pos m) 3 ++ hundredthsField (getD t (efficiencyAt m) nan) 7 ++ hundredthsField (getD t ((m - 1) * 91) nan) 7 ++ lineFeed) e b → Appended d a (rowText t m) e b
-unfolding rowText
-row t m x = same x (ap (λ (k : ℕ). integerField (pos m) 3 ++ hundredthsField (getD t (efficiencyAt m) nan) 7 ++ hundredthsField (getD t k nan) 7 ++ lineFeed) (let q : (m - 1) * 91 ≡ gainAt m 0 = omega arith in q))
+  pub unsigned : (n w : ℕ) → n < 2 ^ 63 → Appended d a (integerField (toZ w64 n) w) e b → Appended d a (integerField (pos n) w) e b
+  unsigned n w f x = same x (ap (λ (z : ℤ). integerField z w) (toZ-pos w64 n f))
+
+  pub signed : (z : ℤ) (w : ℕ) → SFits w32 z → Appended d a (integerField (toZ w64 (ofZ w64 (toZ w32 (ofZ w32 z)))) w) e b → Appended d a (integerField z w) e b
+  signed z w f x = handed z w (wider z f) (same x (ap (λ (y : ℤ). integerField (toZ w64 (ofZ w64 y)) w) (toZ-ofZ w32 z f)))
+
+  -- a row as the code reads it out of the table
+  pub row : (t : List Float) (m : ℕ)
+      → Appended d a (integerField (pos m) 3 ++ hundredthsField (getD t (efficiencyAt m) nan) 7 ++ hundredthsField (getD t ((m - 1) * 91) nan) 7 ++ lineFeed) e b → Appended d a (rowText t m) e b
+  unfolding rowText
+  row t m x = same x (ap (λ (k : ℕ). integerField (pos m) 3 ++ hundredthsField (getD t (efficiencyAt m) nan) 7 ++ hundredthsField (getD t k nan) 7 ++ lineFeed) (let q : (m - 1) * 91 ≡ gainAt m 0 = omega arith in q))
 
 -- ---- lengths
 pub heading-length : (place : ℕ) (kop : ℤ) (refusal : ℕ) → length (headingText place kop refusal) ≡ 14

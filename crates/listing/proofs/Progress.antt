@@ -25,12 +25,12 @@ less-left p (a ∷ bs) b = go (eqb b 10) (less-left (grown p b) bs a)
     go true h = omega arith
     go false h = omega arith
 
-rest-by : (s : State) (g : Gathered) → stepBy s g .rest ≡ g .rest
-rest-by s g = go (g .whole)
+pub parts-by : (s : State) (g : Gathered) → (stepBy s g .buffer ≡ g .held) × (stepBy s g .rest ≡ g .rest)
+parts-by s g = go (g .whole)
   where
-    go : (b : Bool) → stepBy s (record { whole = b; held = g .held; rest = g .rest }) .rest ≡ g .rest
-    go true = refl
-    go false = refl
+    go : (b : Bool) → let t = stepBy s (record { whole = b; held = g .held; rest = g .rest }) in (t .buffer ≡ g .held) × (t .rest ≡ g .rest)
+    go true = (refl, refl)
+    go false = (refl, refl)
 
 nonzero : (used : ℕ) (p bs : List ℕ) (b : ℕ) → drop used (b ∷ bs) ≡ gathered p (b ∷ bs) .rest → 0 < used
 nonzero zero p bs b e = absurd (let w : ⊥ = omega (arith, less-left p bs b, ap length e) in w)
@@ -42,4 +42,4 @@ unfolding stepOf
 moves s line [] table out at line′ table′ out′ r x e h = absurd (let w : ⊥ = omega arith in w)
 moves s line (b ∷ bs) table out at line′ table′ out′ r x e h =
     nonzero (r .used) (stateIn s line table .held) bs b
-    (x .rest ∙ ap (λ (t : Bool). stepOf t (stateIn s line table) (b ∷ bs) .rest) e ∙ rest-by (stateIn s line table) (gathered (stateIn s line table .held) (b ∷ bs)))
+    (x .rest ∙ ap (λ (t : Bool). stepOf t (stateIn s line table) (b ∷ bs) .rest) e ∙ parts-by (stateIn s line table) (gathered (stateIn s line table .held) (b ∷ bs)) .1)

@@ -14,11 +14,12 @@ use Rattle.listing.specs.declared.gathering.Gathered as G
 use Rattle.listing.specs.declared.card.Listed as C
 use Rattle.listing.specs.Appended.{Appended, overwritten}
 use Rattle.listing.specs.Text.{countsText}
-use Rattle.listing.specs.Session.{State, stateIn, heldIn, Gathered, gathered, lineText, afterLine, stepOf, lastText, endBy, counts, finishText, finishTable, isReady}
+use Rattle.listing.specs.Session.{State, stateIn, heldIn, Gathered, gathered, lineText, afterLine, stepBy, stepOf, lastText, endBy, counts, finishText, finishTable, isReady}
 use Rattle.listing.specs.Gathering.{GatherDone}
 use Rattle.listing.specs.Card.{LineListed}
 use Rattle.listing.specs.Steps.{StepDone, FinishDone}
-use Rattle.listing.proofs.Buffer.{unchanged, same, then}
+use Rattle.listing.proofs.Buffer.{unchanged, nothing, same, then}
+use Rattle.listing.proofs.Progress.{parts-by}
 use Rattle.listing.proofs.Ready.{true-of, false-of, tested}
 
 -- the buffer has no more than 120 bytes
@@ -64,7 +65,10 @@ module _ (s : S.Session) (line : List ℕ) (table : List Float) (out : List ℕ)
     line-long : length line ≡ 120
     line-long = tested line table out at b is e .line-length
 
-    gathered-is : gathered (take (s .held) line) piece ≡ record { whole = g .whole; held = take (g .held) line′; rest = drop (g .used) piece }
+    abbrev found : Gathered
+    found = record { whole = g .whole; held = take (g .held) line′; rest = drop (g .used) piece }
+
+    gathered-is : gathered (take (s .held) line) piece ≡ found
     gathered-is = ap (λ (p : List ℕ). gathered p piece) (sym (held-in (s .held) line line-long) ∙ ap (λ (k : ℕ). take k line) (sym from)) ∙ x .result
 
     held-length : length (take (g .held) line′) ≡ g .held
@@ -76,38 +80,34 @@ module _ (s : S.Session) (line : List ℕ) (table : List Float) (out : List ℕ)
         sym (take-append-drop (g .held) line′)
         ∙ ap (λ (p : List ℕ). take (g .held) line′ ++ p) (x .kept ∙ ap (λ (k : ℕ). drop k line) (let z : g .held ≡ 0 + length (take (g .held) line′) = omega (arith, held-length) in z))
 
-    pub step-part : not (g .whole) ≡ true → StepDone s line piece table out at line′ table out (record { session = record { deck = s .deck; listed = s .listed; held = g .held }; used = g .used; at = at })
+    -- the step by what was gathered: its state, what it holds, and its text
+    step-by : (table′ : List Float) (out′ : List ℕ) (c : C.Listed) → let t = stepBy (stateIn s line table) found in
+        stateIn (c .session) line′ table′ ≡ t .state → c .session .held ≡ length (t .state .held) → Appended out at (t .text) out′ (c .at)
+        → StepDone s line piece table out at line′ table′ out′ (record { session = c .session; used = g .used; at = c .at })
     unfolding stepOf
-    step-part p =
+    step-by table′ out′ c i h y =
         let r = ready-now e in
-        let w = false-of (g .whole) p in
+        let k = parts-by (stateIn s line table) found in
         record {
-          state = rw (r, gathered-is, w) refl;
-          held = rw (r, gathered-is, w) (sym held-length);
-          buffer = rw (r, gathered-is, w) buffer-is;
-          rest = rw (r, gathered-is, w) refl;
+          state = rw (r, gathered-is) i;
+          held = rw (r, gathered-is) h;
+          buffer = rw (r, gathered-is) (buffer-is ∙ ap (overwritten line 0) (sym (k .0)));
+          rest = rw (r, gathered-is) (sym (k .1));
           within = x .within;
-          text = rw (r, gathered-is, w) (unchanged out at);
-          end = rw (r, gathered-is, w) (let z : at ≡ at + 0 = omega arith in z);
-          fits = λ h. h;
+          text = rw (r, gathered-is) (y .is);
+          end = rw (r, gathered-is) (y .end);
+          fits = λ l. omega (arith, y .end, y .fits);
         }
+
+    pub step-part : not (g .whole) ≡ true → StepDone s line piece table out at line′ table out (record { session = record { deck = s .deck; listed = s .listed; held = g .held }; used = g .used; at = at })
+    step-part p =
+        let w = false-of (g .whole) p in
+        step-by table out (record { session = record { deck = s .deck; listed = s .listed; held = g .held }; at = at }) (rw w refl) (rw w (sym held-length)) (rw w (nothing out at (omega (arith, tested line table out at b is e .room))))
 
     pub step-whole : (table′ : List Float) (out′ : List ℕ) (c : C.Listed) → not (g .whole) ≡ false → LineListed s (take (g .held) line′) table table′ out at out′ c
         → StepDone s line piece table out at line′ table′ out′ (record { session = c .session; used = g .used; at = c .at })
-    unfolding stepOf afterLine lineText
-    step-whole table′ out′ c p y =
-        let r = ready-now e in
-        let w = true-of (g .whole) p in
-        record {
-          state = rw (r, gathered-is, w) (y .state line′);
-          held = rw (r, gathered-is, w) (y .held);
-          buffer = rw (r, gathered-is, w) buffer-is;
-          rest = rw (r, gathered-is, w) refl;
-          within = x .within;
-          text = rw (r, gathered-is, w) (y .text line .is);
-          end = rw (r, gathered-is, w) (y .text line .end);
-          fits = λ h. omega (arith, y .text line .end, y .text line .fits);
-        }
+    unfolding afterLine lineText
+    step-whole table′ out′ c p y = let w = true-of (g .whole) p in step-by table′ out′ c (rw w (y .state line′)) (rw w (y .held)) (rw w (y .text line))
 
   -- ---- the end of the input
   pub finish-idle : not b ≡ true → FinishDone s line table out at table out at
@@ -131,17 +131,16 @@ module _ (s : S.Session) (line : List ℕ) (table : List Float) (out : List ℕ)
       let l = tested line table out at b is e .line-length in
       ended [] table out′ r e (sym (held-in (s .held) line l) ∙ ap (λ (k : ℕ). take k line) (sym p ∙ z)) refl x
 
-  some-held : (held : ℕ) (q : List ℕ) (table′ : List Float) (out′ out″ : List ℕ) (c : C.Listed) (r : ℕ) → not b ≡ false → (length q ≡ 0 → ⊥) → take (s .held) line ≡ q → LineListed s q table table′ out at out′ c
-      → Appended out′ (c .at) (countsText (c .session .deck .accepted) (c .session .deck .refused)) out″ r → FinishDone s line table out at table′ out″ r
-  unfolding afterLine lineText
-  some-held held [] table′ out′ out″ c r e n h y x = absurd (n refl)
-  some-held held (a ∷ q) table′ out′ out″ c r e n h y x =
-      ended (a ∷ q) table′ out″ r e h (ap (λ (z : State). z .table) (y .state line))
-      (same (then (y .text line) x) (ap (λ (z : State). lineText (stateIn s line table) (a ∷ q) ++ counts (z .deck)) (y .state line)))
+  module _ (table′ : List Float) (out′ out″ : List ℕ) (c : C.Listed) (r : ℕ) (e : not b ≡ false) (x : Appended out′ (c .at) (countsText (c .session .deck .accepted) (c .session .deck .refused)) out″ r) where
+    some-held : (q : List ℕ) → (length q ≡ 0 → ⊥) → take (s .held) line ≡ q → LineListed s q table table′ out at out′ c → FinishDone s line table out at table′ out″ r
+    unfolding afterLine lineText
+    some-held [] n h y = absurd (n refl)
+    some-held (a ∷ q) n h y =
+        ended (a ∷ q) table′ out″ r e h (ap (λ (z : State). z .table) (y .state line))
+        (same (then (y .text line) x) (ap (λ (z : State). lineText (stateIn s line table) (a ∷ q) ++ counts (z .deck)) (y .state line)))
 
-  pub finish-held : (held : ℕ) (table′ : List Float) (out′ out″ : List ℕ) (c : C.Listed) (r : ℕ) → not b ≡ false → held ≡ heldIn (s .held) → (held ≡ 0 → ⊥) → LineListed s (take held line) table table′ out at out′ c
-      → Appended out′ (c .at) (countsText (c .session .deck .accepted) (c .session .deck .refused)) out″ r → FinishDone s line table out at table′ out″ r
-  finish-held held table′ out′ out″ c r e p n y x =
-      let l = tested line table out at b is e .line-length in
-      let m : length (take held line) ≡ held = length-take-le held line (omega (arith, p, held-low (s .held), l)) in
-      some-held held (take held line) table′ out′ out″ c r e (λ (z : length (take held line) ≡ 0). n (sym m ∙ z)) (sym (held-in (s .held) line l) ∙ ap (λ (k : ℕ). take k line) (sym p)) y x
+    pub finish-held : (held : ℕ) → held ≡ heldIn (s .held) → (held ≡ 0 → ⊥) → LineListed s (take held line) table table′ out at out′ c → FinishDone s line table out at table′ out″ r
+    finish-held held p n y =
+        let l = tested line table out at b is e .line-length in
+        let m : length (take held line) ≡ held = length-take-le held line (omega (arith, p, held-low (s .held), l)) in
+        some-held (take held line) (λ (z : length (take held line) ≡ 0). n (sym m ∙ z)) (sym (held-in (s .held) line l) ∙ ap (λ (k : ℕ). take k line) (sym p)) y

@@ -77,18 +77,17 @@ over-entry p q h k =
     ap (λ (l : L.Line). record { line = lineIn l; table = cleared })
     (wrong-length p (λ (e : length p ≡ 119). let w : ⊥ = omega arith in w) ∙ sym (wrong-length q (λ (e : length q ≡ 119). let w : ⊥ = omega arith in w)))
 
-over-first : (n : ℕ) (d : Deck) (p q : List ℕ) (ls : List (List ℕ)) → 120 ≤ length p → 120 ≤ length q → textsOf n d (p ∷ ls) ≡ textsOf n d (q ∷ ls)
+by-entry : (n : ℕ) (d : Deck) (p q : List ℕ) (ls : List (List ℕ)) → entryOf p ≡ entryOf q → textsOf n d (p ∷ ls) ≡ textsOf n d (q ∷ ls)
 unfolding textsOf
-over-first n d p q ls h k =
-    ap (λ (x : Entry theAntenna). cardText (suc n) (x .line) (outcomeOn theAntenna countLimit d x) ++ textsOf (suc n) (deckAfter theAntenna countLimit d x) ls) (over-entry p q h k)
+by-entry n d p q ls = ap (λ (x : Entry theAntenna). cardText (suc n) (x .line) (outcomeOn theAntenna countLimit d x) ++ textsOf (suc n) (deckAfter theAntenna countLimit d x) ls)
 
 ended-long : (p : List ℕ) → 120 ≤ length p → ended p ≡ p ∷ []
 ended-long [] h = absurd (let w : ⊥ = omega arith in w)
 ended-long (a ∷ p) h = refl
 
 over : (n : ℕ) (d : Deck) (p q : List ℕ) (ls : List (List ℕ)) → 120 ≤ length p → 120 ≤ length q → textsOf n d (joined p ls) ≡ textsOf n d (joined q ls)
-over n d p q [] h k = ap (textsOf n d) (ended-long p h) ∙ over-first n d p q [] h k ∙ ap (textsOf n d) (sym (ended-long q k))
-over n d p q (l ∷ ls) h k = over-first n d (p ++ l) (q ++ l) ls (omega (arith, length-append p l)) (omega (arith, length-append q l))
+over n d p q [] h k = ap (textsOf n d) (ended-long p h) ∙ by-entry n d p q [] (over-entry p q h k) ∙ ap (textsOf n d) (sym (ended-long q k))
+over n d p q (l ∷ ls) h k = by-entry n d (p ++ l) (q ++ l) ls (over-entry (p ++ l) (q ++ l) (omega (arith, length-append p l)) (omega (arith, length-append q l)))
 
 grown-same : (n : ℕ) (d : Deck) (p bs : List ℕ) (b : ℕ) → from n d (p ++ (b ∷ [])) bs ≡ from n d (grown p b) bs
 unfolding grown

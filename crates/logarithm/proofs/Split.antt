@@ -1,22 +1,23 @@
 -- ln's argument as m times 2 ^ e: every positive number has such an m and e, no other, and its logarithm is `lnAt` of them. Assumes nothing.
 use mathlib.Core.Path.{_≡_, refl, sym, ap, subst, _∙_}
-use mathlib.Core.Bool.{Bool, true, false, not, true≢false}
+use mathlib.Core.Bool.{Bool, true, false, true≢false}
 use mathlib.Core.Logic.{_⊎_, inl, inr}
-use Prim.Native.Nat.{ℕ, zero, suc, _+_, _-_, _*_, _^_, _≤_, _<_}
+use Prim.Native.Nat.{ℕ, suc, _+_, _-_, _*_, _^_, _≤_, _<_}
 use native.Mathlib.Omega.{arith}
 use native.Mathlib.Nat.{mul-one, one-mul, mul-assoc, mul-right-comm, mul-pos, mul-le-mul, le-refl, eq-of-mul-eq-mul-right, lt-of-not-le, lt-of-lt-of-le, zero-lt-suc, le-of-suc-le-suc, le-of-mul-le-mul-right, pow-succ'}
-use lib.Dec.{T, leb, leb→le, nleb→lt}
+use lib.Dec.{T}
 use lib.IntN.{ℤ, pos, negsuc}
 use lib.Pow.{pow-pos, pow-add, pow-mono, shl-lt}
 use lib.Ieee.{Float, nan, inf, fin, binary32, round, ofInt, size, fits, up, down, minus, lt, le}
-use lib.Ieee.Digits.{size-lt, size-le, size-reaches, minus-val}
+use lib.Ieee.Digits.{size-lt, size-le, minus-val}
 use lib.Ieee.Fits.{round-fits}
 use lib.Ieee.Exact.{HasValue, round-exact}
 use lib.Ieee.Order.{le-of-values}
 use lib.Ieee.Positive.{num, den, den-pos, positive, between, own-value, values-of-le, value→cross}
 use Rattle.single.proofs.Booleans.{holds}
 use Rattle.single.specs.Single.{unitsOf}
-use Rattle.single.proofs.Digits.{size-shift, minus-shift}
+use Rattle.single.proofs.Compare.{le-or-lt}
+use Rattle.single.proofs.Digits.{span, size-shift, minus-shift}
 use Rattle.single.proofs.Exact.{whole, own-units, digits-small, round-value}
 use Rattle.single.proofs.Order.{lt-values, ge-values, not-lt-values}
 use Rattle.single.proofs.Positive.{on-value}
@@ -33,14 +34,6 @@ least-value = (refl, refl)
 least-positive : T (positive leastDigits)
 unfolding round
 least-positive = tt
-
--- the digits of a number above 0
-span : (n : ℕ) → 0 < n → (k : ℕ) × (size n ≡ suc k) × (2 ^ k ≤ n) × (n < 2 ^ suc k)
-span n P = go (size n) refl
-  where
-    go : (s : ℕ) → size n ≡ s → (k : ℕ) × (size n ≡ suc k) × (2 ^ k ≤ n) × (n < 2 ^ suc k)
-    go zero e = absurd (let z : n < 1 = subst (λ (x : ℕ). n < 2 ^ x) e (size-lt n) in omega arith)
-    go (suc k) e = (k, e, size-reaches n k (let z : k < size n = omega arith in z), subst (λ (x : ℕ). n < 2 ^ x) e (size-lt n))
 
 -- q * 2 ^ i over 2 ^ c loses no digit, for every c from one less than the number's digits up
 over : (q i c : ℕ) → q < 2 ^ 24 → size q + i ≤ suc c → c ≤ i + 149 → HasValue (round binary32 false (q * 2 ^ i) (2 ^ c)) false (q * 2 ^ i) (2 ^ c)
@@ -93,22 +86,19 @@ module _ (y m : Float) (e : ℤ) (n : ℕ) (P : 0 < n) (v : HasValue y false n (
       go (pos j) q =
           let k : num m * 2 ^ j * 2 ^ 149 ≡ n * (den m * 1) = subst (λ (z : ℤ). num m * up z * 2 ^ 149 ≡ n * (den m * down z)) q key in
           (j + 149, value-by m n (2 ^ (j + 149)) m-positive (ap (λ (x : ℕ). num m * x) (pow-add 2 j 149) ∙ sym (mul-assoc (num m) (2 ^ j) (2 ^ 149)) ∙ k ∙ ap (λ (x : ℕ). n * x) (mul-one (den m))), q ∙ minus-up j)
-      go (negsuc j) q = cut (leb (suc j) 149) (leb→le (suc j) 149) (nleb→lt (suc j) 149)
-        where
-          k : num m * 1 * 2 ^ 149 ≡ n * (den m * 2 ^ suc j)
-          k = subst (λ (z : ℤ). num m * up z * 2 ^ 149 ≡ n * (den m * down z)) q key
-
-          cut : (t : Bool) → (T t → suc j ≤ 149) → (T (not t) → 149 < suc j) → (c : ℕ) × HasValue m false n (2 ^ c) × (e ≡ minus c 149)
-          cut false f g = absurd (too-small j (g tt) k)
-          cut true f g =
-              let h : suc j ≤ 149 = f tt in
-              let c = 149 - suc j in
-              let two : 2 ^ 149 ≡ 2 ^ c * 2 ^ suc j = ap (λ (x : ℕ). 2 ^ x) (let z : 149 ≡ c + suc j = omega arith in z) ∙ pow-add 2 c (suc j) in (
-                c,
-                value-by m n (2 ^ c) m-positive (eq-of-mul-eq-mul-right (2 ^ suc j) (pow-pos (suc j)) (num m * 2 ^ c) (n * den m)
-                    (mul-assoc (num m) (2 ^ c) (2 ^ suc j) ∙ ap (λ (x : ℕ). num m * x) (sym two) ∙ ap (λ (x : ℕ). x * 2 ^ 149) (sym (mul-one (num m))) ∙ k ∙ sym (mul-assoc n (den m) (2 ^ suc j)))),
-                q ∙ minus-down j h,
-              )
+      go (negsuc j) q =
+          let k : num m * 1 * 2 ^ 149 ≡ n * (den m * 2 ^ suc j) = subst (λ (z : ℤ). num m * up z * 2 ^ 149 ≡ n * (den m * down z)) q key in
+          elim (le-or-lt (suc j) 149) [
+            | inr g ↦ absurd (too-small j g k)
+            | inl h ↦
+                let c = 149 - suc j in
+                let two : 2 ^ 149 ≡ 2 ^ c * 2 ^ suc j = ap (λ (x : ℕ). 2 ^ x) (let z : 149 ≡ c + suc j = omega arith in z) ∙ pow-add 2 c (suc j) in (
+                  c,
+                  value-by m n (2 ^ c) m-positive (eq-of-mul-eq-mul-right (2 ^ suc j) (pow-pos (suc j)) (num m * 2 ^ c) (n * den m)
+                      (mul-assoc (num m) (2 ^ c) (2 ^ suc j) ∙ ap (λ (x : ℕ). num m * x) (sym two) ∙ ap (λ (x : ℕ). x * 2 ^ 149) (sym (mul-one (num m))) ∙ k ∙ sym (mul-assoc n (den m) (2 ^ suc j)))),
+                  q ∙ minus-down j h,
+                )
+          ]
 
   -- that power is one of two, by n's digits
   module _ (k : ℕ) (l : 2 ^ k ≤ n) (h : n < 2 ^ suc k) where
@@ -143,29 +133,28 @@ module _ (n : ℕ) (d : ℤ) (t : T (fits binary32 (fin false (suc n) d))) where
       let b : size (suc n) ≤ 24 = size-le (suc n) 24 (digits-small false n d t) in
       subst (λ (x : ℕ). HasValue (round binary32 false x (2 ^ c)) false x (2 ^ c)) (sym (w .1)) (over (suc n) (w .0) c (digits-small false n d t) (omega arith) (omega arith))
 
-  picked : (m : Float) (e : ℤ) → T (fits binary32 m) → Split (fin false (suc n) d) m e → (k : ℕ) → size N ≡ suc k → (c : ℕ) → HasValue m false N (2 ^ c) → e ≡ minus c 149 → k ≤ c → c ≤ suc k → Picks m e N k
-  picked m e f s k z c w q l h = go (leb c k) (leb→le c k) (nleb→lt c k)
-    where
-      go : (b : Bool) → (T b → c ≤ k) → (T (not b) → k < c) → Picks m e N k
-      go true u v =
-          let g : c ≤ k = u tt in
-          let j : c ≡ k = omega arith in
-          let r : first N k ≡ m = round-value m N (2 ^ k) f N-pos (pow-pos k) (subst (λ (x : ℕ). HasValue m false N (2 ^ x)) j w) in
-          inl (ap (λ (x : Float). lt x digitsEnd) r ∙ s .below, sym r, q ∙ ap (λ (x : ℕ). minus x 149) j)
-      go false u v =
-          let g : k < c = v tt in
-          let j : c ≡ suc k = omega arith in
-          let w′ : HasValue m false N (2 ^ suc k) = subst (λ (x : ℕ). HasValue m false N (2 ^ x)) j w in
-          let t′ : 11863283 * 2 ^ suc k ≤ N * 16777216 = values-of-le leastDigits m 11863283 (2 ^ 24) N (2 ^ suc k) least-positive (m-positive (fin false (suc n) d) m e N N-pos (own-units false n d t) s) least-value w′ (s .least) in
-          let two : 2 ^ suc k ≡ 2 * 2 ^ k = pow-succ' 2 k in
-          inr (not-lt-values (first N k) digitsEnd N (2 ^ k) 11863283 (2 ^ 23) (pow-pos k) (pow-pos 23) (exact-at k (omega arith) (omega arith)) end-value (omega arith), sym (round-value m N (2 ^ suc k) f N-pos (pow-pos (suc k)) w′), q ∙ ap (λ (x : ℕ). minus x 149) j)
+  module _ (m : Float) (e : ℤ) (f : T (fits binary32 m)) (s : Split (fin false (suc n) d) m e) (k : ℕ) (z : size N ≡ suc k) where
+    picked : (c : ℕ) → HasValue m false N (2 ^ c) → e ≡ minus c 149 → k ≤ c → c ≤ suc k → Picks m e N k
+    picked c w q l h =
+        elim (le-or-lt c k) [
+          | inl g ↦
+              let j : c ≡ k = omega arith in
+              let r : first N k ≡ m = round-value m N (2 ^ k) f N-pos (pow-pos k) (subst (λ (x : ℕ). HasValue m false N (2 ^ x)) j w) in
+              inl (ap (λ (x : Float). lt x digitsEnd) r ∙ s .below, sym r, q ∙ ap (λ (x : ℕ). minus x 149) j)
+          | inr g ↦
+              let j : c ≡ suc k = omega arith in
+              let w′ : HasValue m false N (2 ^ suc k) = subst (λ (x : ℕ). HasValue m false N (2 ^ x)) j w in
+              let t′ : 11863283 * 2 ^ suc k ≤ N * 16777216 = values-of-le leastDigits m 11863283 (2 ^ 24) N (2 ^ suc k) least-positive (m-positive (fin false (suc n) d) m e N N-pos (own-units false n d t) s) least-value w′ (s .least) in
+              let two : 2 ^ suc k ≡ 2 * 2 ^ k = pow-succ' 2 k in
+              inr (not-lt-values (first N k) digitsEnd N (2 ^ k) 11863283 (2 ^ 23) (pow-pos k) (pow-pos 23) (exact-at k (omega arith) (omega arith)) end-value (omega arith), sym (round-value m N (2 ^ suc k) f N-pos (pow-pos (suc k)) w′), q ∙ ap (λ (x : ℕ). minus x 149) j)
+        ]
 
-  picks : (m : Float) (e : ℤ) → T (fits binary32 m) → Split (fin false (suc n) d) m e → (k : ℕ) → size N ≡ suc k → 2 ^ k ≤ N → N < 2 ^ suc k → Picks m e N k
-  picks m e f s k z l h =
-      let y = fin false (suc n) d in
-      let a = at-scale y m e N N-pos (own-units false n d t) s in
-      let c = near y m e N N-pos (own-units false n d t) s k l h (a .0) (a .1) in
-      picked m e f s k z (a .0) (a .1) (a .2) (c .0) (c .1)
+    picks : 2 ^ k ≤ N → N < 2 ^ suc k → Picks m e N k
+    picks l h =
+        let y = fin false (suc n) d in
+        let a = at-scale y m e N N-pos (own-units false n d t) s in
+        let c = near y m e N N-pos (own-units false n d t) s k l h (a .0) (a .1) in
+        picked (a .0) (a .1) (a .2) (c .0) (c .1)
 
   -- one split, and no other
   pub split-unique : (m m′ : Float) (e e′ : ℤ) → T (fits binary32 m) → T (fits binary32 m′) → Split (fin false (suc n) d) m e → Split (fin false (suc n) d) m′ e′ → (m ≡ m′) × (e ≡ e′)

@@ -52,9 +52,11 @@ exact m (negsuc a) M D h =
 cross : (p c a d k : ℕ) → 0 < d → p * c ≡ a * d → a < k * c → p < k * d
 cross p c a d k D e h = lt-of-mul-lt-mul-right c (lt-of-lt-of-le (subst (λ (x : ℕ). x < k * c * d) (sym e) (mul-lt-mul-of-pos-right h D)) (le-of-eq (mul-right-comm k c d)))
 
+abbrev InU64 : Float → Type 0
+InU64 y = T (lt (fin true 1 (pos 0)) y) × T (lt y (fin false 1 (pos 64)))
+
 pub record Cut (y : Float) (a c : ℕ) : Type 0 where
-  pub over : T (lt (fin true 1 (pos 0)) y)
-  pub under : T (lt y (fin false 1 (pos 64)))
+  pub in-u64 : InU64 y
   pub whole : toUnsigned 64 y ≡ a / c
 
 cut : (y : Float) (a c : ℕ) → 0 < c → HasValue y false a c → a < 200 * 2 ^ 56 * c → Cut y a c
@@ -67,8 +69,7 @@ cut (fin false m e) a c C v h =
     let k : m * up e < 200 * 2 ^ 56 * down e = cross (m * up e) c a (down e) (200 * 2 ^ 56) d (v .1) h in
     let q : m * up e / down e < 200 * 2 ^ 56 = div-lt-iff-lt-mul d .1 k in
     record {
-      over = lt→ltb 0 (1 * 1 * down e + m * up e * 1) (omega arith);
-      under = lt→ltb (m * up e * 1) (1 * 2 ^ 64 * down e) (omega arith);
+      in-u64 = (lt→ltb 0 (1 * 1 * down e + m * up e * 1) (omega arith), lt→ltb (m * up e * 1) (1 * 2 ^ 64 * down e) (omega arith));
       whole = min-eq-left (let z : m * up e / down e ≤ 2 ^ 64 - 1 = omega arith in z) ∙ div-same (m * up e) (down e) a c d C (v .1);
     }
 
@@ -94,8 +95,7 @@ half a b B =
 
 -- ---- positive
 pub record Counted (x y : Float) : Type 0 where
-  pub over : T (lt (fin true 1 (pos 0)) y)
-  pub under : T (lt y (fin false 1 (pos 64)))
+  pub in-u64 : InU64 y
   pub small : toUnsigned 64 y < 200 * 2 ^ 56
   pub is : (toUnsigned 64 y + 1) / 2 ≡ sizeOf x
 
@@ -113,8 +113,7 @@ counted (fin false (suc m) e) f p h =
     let k : suc m * up e * 200 < 200 * 2 ^ 56 * (down e * 1) = omega arith in
     let c = cut (round binary64 false (suc m * up e * (25 * 2 ^ 3)) (down e * 1)) (suc m * up e * 200) (down e * 1) (mul-pos d (lit< tt)) (exact m e (w .0) (w .1) g) k in
     record {
-      over = c .over;
-      under = c .under;
+      in-u64 = c .in-u64;
       small = subst (λ (x : ℕ). x < 200 * 2 ^ 56) (sym (c .whole)) (div-lt-iff-lt-mul (mul-pos d (lit< tt)) .1 k);
       is = ap (λ (x : ℕ). (x + 1) / 2) (c .whole) ∙ half (suc m * up e) (down e) d;
     }

@@ -8,7 +8,7 @@ use native.Mathlib.Nat.{one-le-pow, pow-succ', le-div-iff-mul-le, zero-lt-suc}
 use native.Mathlib.Numerals.{sub-one}
 use borrow.Author.Tests.{leb-true, lt-ltb, le-ltb, le-leb, lt-leb}
 use lib.Dec.{ltb, leb}
-use lib.IntN.{ℤ, pos, negsuc, natAbs, pos-ne-negsuc}
+use lib.IntN.{ℤ, pos, negsuc, natAbs}
 use lib.Seq.{drop-length, length-take-le}
 use borrow.Author.Fill.{fill-more}
 use lib.ListN.{length, set, take, drop, replicate, length-set, length-append, length-drop, length-replicate}
@@ -135,35 +135,34 @@ spaced v d t x i e l f =
     let p : length d - length t ≡ i = omega arith in
     rw (e, le-leb (length t) (length d) q, p) (ap (λ (y : List ℕ). y ++ t) f)
 
-pub plus : (v : ℤ) (n i : ℕ) (d out x : List ℕ) → n ≡ natAbs v → v ≡ pos (natAbs v) → Stands n d out i → x ≡ replicate (length (take i out)) 32 → x ++ drop i out ≡ integerField v (length d)
-unfolding text
-plus v n i d out x e p s f =
-    let l : length out ≡ length d = s .long in
-    let m : i ≤ length d = s .low in
-    let k : i ≤ length out = omega arith in
-    spaced v d (drop i out) x i (ap text p ∙ ap decimal (sym e) ∙ sym (s .end)) (omega (arith, length-drop i out)) (f ∙ ap (λ (y : ℕ). replicate y 32) (length-take-le i out k))
+module _ (v : ℤ) (n i : ℕ) (d out x : List ℕ) (e : n ≡ natAbs v) where
+  pub plus : v ≡ pos (natAbs v) → Stands n d out i → x ≡ replicate (length (take i out)) 32 → x ++ drop i out ≡ integerField v (length d)
+  unfolding text
+  plus p s f =
+      let l : length out ≡ length d = s .long in
+      let m : i ≤ length d = s .low in
+      let k : i ≤ length out = omega arith in
+      spaced v d (drop i out) x i (ap text p ∙ ap decimal (sym e) ∙ sym (s .end)) (omega (arith, length-drop i out)) (f ∙ ap (λ (y : ℕ). replicate y 32) (length-take-le i out k))
 
-pub no-room : (v : ℤ) (n i : ℕ) (d out x : List ℕ) → n ≡ natAbs v → v ≡ negsuc (natAbs v - 1) → Stands n d out i → i ≡ 0 → x ≡ replicate (length out) 42 → x ≡ integerField v (length d)
-unfolding text
-no-room (pos k) n i d out x e p s z f = absurd (pos-ne-negsuc k (k - 1) p)
-no-room (negsuc k) n i d out x e p s z f =
-    let l : length out ≡ length d = s .long in
-    let g : length (decimal n) ≡ length (decimal (suc k)) = ap (λ (y : ℕ). length (decimal y)) e in
-    let q : length (drop i out) ≡ length out = rw z refl in
-    starred (negsuc k) d x (length out) l (omega (arith, ap length (s .end))) f
+  module _ (p : v ≡ negsuc (natAbs v - 1)) (s : Stands n d out i) where
+    minus-text : text v ≡ 45 ∷ drop i out
+    unfolding text
+    minus-text = ap text p ∙ ap (λ (k : ℕ). 45 ∷ decimal k) (sym (e ∙ ap natAbs p)) ∙ ap (λ (y : List ℕ). 45 ∷ y) (sym (s .end))
 
-pub minus : (v : ℤ) (n i : ℕ) (d out x : List ℕ) → n ≡ natAbs v → v ≡ negsuc (natAbs v - 1) → Stands n d out i → (i ≡ 0 → ⊥) → x ≡ replicate (length (take (i - 1) (set out (i - 1) 45))) 32
-    → x ++ drop (i - 1) (set out (i - 1) 45) ≡ integerField v (length d)
-unfolding text
-minus (pos k) n i d out x e p s z f = absurd (pos-ne-negsuc k (k - 1) p)
-minus (negsuc k) n i d out x e p s z f =
-    let l : length out ≡ length d = s .long in
-    let m : i ≤ length d = s .low in
-    let o : 0 < i = omega arith in
-    let r : drop (i - 1) (set out (i - 1) 45) ≡ 45 ∷ drop i out = stored out i 45 o (omega arith) in
-    let b : i - 1 ≤ length (set out (i - 1) 45) = omega (arith, length-set out (i - 1) 45) in
-    spaced (negsuc k) d (drop (i - 1) (set out (i - 1) 45)) x (i - 1) (ap (λ (y : List ℕ). 45 ∷ y) (ap decimal (sym e) ∙ sym (s .end)) ∙ sym r)
-    (omega (arith, length-drop (i - 1) (set out (i - 1) 45), length-set out (i - 1) 45)) (f ∙ ap (λ (y : ℕ). replicate y 32) (length-take-le (i - 1) (set out (i - 1) 45) b))
+    pub no-room : i ≡ 0 → x ≡ replicate (length out) 42 → x ≡ integerField v (length d)
+    no-room z f =
+        let q : length (drop i out) ≡ length out = rw z refl in
+        starred v d x (length out) (s .long) (omega (arith, s .long, ap length minus-text)) f
+
+    pub minus : (i ≡ 0 → ⊥) → x ≡ replicate (length (take (i - 1) (set out (i - 1) 45))) 32 → x ++ drop (i - 1) (set out (i - 1) 45) ≡ integerField v (length d)
+    minus z f =
+        let l : length out ≡ length d = s .long in
+        let m : i ≤ length d = s .low in
+        let o : 0 < i = omega arith in
+        let r : drop (i - 1) (set out (i - 1) 45) ≡ 45 ∷ drop i out = stored out i 45 o (omega arith) in
+        let b : i - 1 ≤ length (set out (i - 1) 45) = omega (arith, length-set out (i - 1) 45) in
+        spaced v d (drop (i - 1) (set out (i - 1) 45)) x (i - 1) (minus-text ∙ sym r)
+        (omega (arith, length-drop (i - 1) (set out (i - 1) 45), length-set out (i - 1) 45)) (f ∙ ap (λ (y : ℕ). replicate y 32) (length-take-le (i - 1) (set out (i - 1) 45) b))
 
 -- a field has its width
 pub justified-length : (t : List ℕ) (w : ℕ) → length (justified t w) ≡ w

@@ -25,6 +25,9 @@ by-tens P small large (suc k) n h = go (ltb n 10) refl (λ (l : 10 ≤ n). by-te
     go true e rec = small (suc k) n (ltb-true n 10 e)
     go false e rec = let l : 10 ≤ n = ltb-false n 10 e in large k n l h (rec l)
 
+next : (k n : ℕ) (t : List ℕ) → 10 ≤ n → n ≤ suc k → spelled (suc k) (ltb n 10) n t ≡ spelled k (ltb (n / 10) 10) (n / 10) ((48 + n % 10) ∷ t)
+next k n t h l = turn (suc k) n t h l ∙ ap (λ (x : ℕ). spelled x (ltb (n / 10) 10) (n / 10) ((48 + n % 10) ∷ t)) (let z : suc k - 1 ≡ k = omega arith in z)
+
 -- ---- the digits spell their number
 digit : (m : Bool) (a d : ℕ) (t : List ℕ) → d < 10 → readOn m a ((48 + d) ∷ t) ≡ readOn m (a * 10 + d) t
 unfolding readOn
@@ -42,7 +45,7 @@ spells m = by-tens (λ (k n : ℕ). (t : List ℕ) → readOn m 0 (spelled k (lt
 
     large : (k n : ℕ) → 10 ≤ n → n ≤ suc k → ((t : List ℕ) → readOn m 0 (spelled k (ltb (n / 10) 10) (n / 10) t) ≡ readOn m (n / 10) t) → (t : List ℕ) → readOn m 0 (spelled (suc k) (ltb n 10) n t) ≡ readOn m n t
     large k n h l rec t =
-        ap (readOn m 0) (turn (suc k) n t h l ∙ ap (λ (x : ℕ). spelled x (ltb (n / 10) 10) (n / 10) ((48 + n % 10) ∷ t)) (let z : suc k - 1 ≡ k = omega arith in z))
+        ap (readOn m 0) (next k n t h l)
         ∙ rec ((48 + n % 10) ∷ t)
         ∙ digit m (n / 10) (n % 10) t (omega arith)
         ∙ ap (λ (x : ℕ). readOn m x t) (let z : n / 10 * 10 + n % 10 ≡ n = omega arith in z)
@@ -58,10 +61,9 @@ few = by-tens (λ (k n : ℕ). (j : ℕ) (t : List ℕ) → n < 10 ^ suc j → l
         → (j : ℕ) (t : List ℕ) → n < 10 ^ suc j → length (spelled (suc k) (ltb n 10) n t) ≤ suc j + length t
     large k n h l rec zero t b = absurd (let z : n < 10 = b in let w : _≡_ {A = ℕ} 0 1 = omega arith in omega arith)
     large k n h l rec (suc j) t b =
-        let e : suc k - 1 ≡ k = omega arith in
         let p : 10 ^ suc (suc j) ≡ 10 * 10 ^ suc j = pow-succ' 10 (suc j) in
         let r = rec j ((48 + n % 10) ∷ t) (div-lt-iff-lt-mul (zero-lt-suc 9) .1 (omega arith)) in
-        omega (arith, ap length (turn (suc k) n t h l ∙ ap (λ (x : ℕ). spelled x (ltb (n / 10) 10) (n / 10) ((48 + n % 10) ∷ t)) e))
+        omega (arith, ap length (next k n t h l))
 
 -- ---- the first byte is a digit, so neither a space nor a minus
 abbrev Begins : List ℕ → Type 0
@@ -74,9 +76,7 @@ begins = by-tens (λ (k n : ℕ). (t : List ℕ) → Begins (spelled k (ltb n 10
     small k n h t = subst (λ (l : List ℕ). Begins l) (sym (last k n t h)) (omega arith, omega arith)
 
     large : (k n : ℕ) → 10 ≤ n → n ≤ suc k → ((t : List ℕ) → Begins (spelled k (ltb (n / 10) 10) (n / 10) t)) → (t : List ℕ) → Begins (spelled (suc k) (ltb n 10) n t)
-    large k n h l rec t =
-        let e : suc k - 1 ≡ k = omega arith in
-        subst (λ (l : List ℕ). Begins l) (sym (turn (suc k) n t h l ∙ ap (λ (x : ℕ). spelled x (ltb (n / 10) 10) (n / 10) ((48 + n % 10) ∷ t)) e)) (rec ((48 + n % 10) ∷ t))
+    large k n h l rec t = subst (λ (l : List ℕ). Begins l) (sym (next k n t h l)) (rec ((48 + n % 10) ∷ t))
 
 -- ---- the spaces
 none : (l : List ℕ) → (getD l 0 0 ≡ 32 → ⊥) → spacesOf l ≡ 0

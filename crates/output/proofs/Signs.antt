@@ -1,17 +1,17 @@
 -- The magnitude of a negative integer, by the machine's steps. Assumes nothing.
 use mathlib.Core.Path.{_≡_, refl, sym, ap, _∙_, subst}
-use mathlib.Core.Bool.{false, true≢false}
-use Prim.Native.Nat.{ℕ, zero, suc, _+_, _^_, _≤_, _<_}
+use mathlib.Core.Bool.{false}
+use Prim.Native.Nat.{ℕ, zero, suc, _+_, _-_, _^_, _≤_, _<_}
 use native.Mathlib.Nat.{le-of-lt, lt-of-lt-of-le, lt-suc-self}
 use native.Mathlib.Numerals.{add-one}
 use native.Mathlib.Omega.{arith}
-use lib.IntN.{ℤ, pos, negsuc, sucℤ, _+ℤ_, _-ℤ_, natAbs, +ℤ-idl, +ℤ-one}
+use lib.IntN.{ℤ, pos, negsuc, sucℤ, _+ℤ_, _-ℤ_, natAbs, +ℤ-idl, +ℤ-one, pos-ne-negsuc}
 use lib.Signed.{leZ, nonNeg}
-use lib.Dec.{T, leb·zero}
+use lib.Dec.{T}
 use mir.Syntax.{Width}
 use mir.Val.{Fits, SFits, bits, hbits}
 use mir.ValLaws.{toZ-ofZ}
-use Rattle.single.proofs.Integers.{back, once}
+use Rattle.single.proofs.Integers.{back, once, is-minus}
 
 -- -(z + 1), which is z's magnitude less one
 abbrev turned : Width → ℤ → ℤ
@@ -35,7 +35,7 @@ flipped zero = refl
 flipped (suc a) = +ℤ-idl (pos (suc a))
 
 pub turn : (w : Width) (z : ℤ) → 2 ^ hbits w + 2 ^ hbits w ≤ 2 ^ bits w → SFits w z → leZ (pos 0) (back w z) ≡ false → Turned w z
-turn w (pos a) B F t = absurd (true≢false (sym (leb·zero a) ∙ subst (λ (y : ℤ). leZ (pos 0) y ≡ false) (toZ-ofZ w (pos a) F) t))
+turn w (pos a) B F t = absurd (pos-ne-negsuc a (a - 1) (is-minus w (pos a) F t))
 turn w (negsuc a) B F t =
     let z = negsuc a in
     let e1 : back w z +ℤ pos 1 ≡ sucℤ z = ap (λ (y : ℤ). y +ℤ pos 1) (toZ-ofZ w z F) ∙ +ℤ-one z in

@@ -1,6 +1,7 @@
 -- Whole roots: `isqrt` is the one number that IsRoot allows, and what rounds to the nearest whole number. Assumes nothing.
 use mathlib.Core.Path.{_≡_, refl, sym, ap, _∙_}
 use mathlib.Core.Bool.{Bool, true, false, not, cond}
+use mathlib.Core.Logic.{inl, inr}
 use Prim.Native.Nat.{ℕ, zero, suc, _+_, _-_, _*_, _/_, _^_, _≤_, _<_, compare, Ordering, Ordering·lt, Ordering·eq, Ordering·gt}
 use native.Mathlib.Omega.{arith}
 use native.Mathlib.Nat.{mul-le-mul, mul-lt-mul-of-pos-right, lt-of-le-of-lt, lt-of-not-le, not-le-of-lt, pow-succ'}
@@ -9,7 +10,7 @@ use mir.Syntax.{w64}
 use lib.Dec.{T, leb, leb→le, nleb→lt}
 use lib.Ieee.{size, nearest}
 use lib.Ieee.Digits.{size-lt}
-use Rattle.single.proofs.Compare.{Cmp, cmp, nearest-up, nearest-down}
+use Rattle.single.proofs.Compare.{le-or-lt, Cmp, cmp, nearest-up, nearest-down}
 use Rattle.root.specs.Root.{IsRoot, isqrt, rootBy}
 use Rattle.root.specs.Digits.{rootNear}
 
@@ -75,26 +76,21 @@ unique n a b x y =
 pub isqrt-of : (n r : ℕ) → IsRoot n r → isqrt n ≡ r
 isqrt-of n r h = unique n (isqrt n) r (isqrt-is n) h
 
-pub up-is : (m r : ℕ) → IsRoot m r → r < m - r * r → rootNear m ≡ r + 1
+near-root : (m r : ℕ) → IsRoot m r → rootNear m ≡ nearest r (compare (4 * m) ((2 * r + 1) * (2 * r + 1)))
 unfolding rootNear
-up-is m r h g =
-    let l : r * r ≤ m = h .low in
-    ap (λ (q : ℕ). nearest q (compare (4 * m) ((2 * q + 1) * (2 * q + 1)))) (isqrt-of m r h)
-    ∙ sym (nearest-up r (4 * m) ((2 * r + 1) * (2 * r + 1)) (omega arith))
+near-root m r h = ap (λ (q : ℕ). nearest q (compare (4 * m) ((2 * q + 1) * (2 * q + 1)))) (isqrt-of m r h)
+
+pub up-is : (m r : ℕ) → IsRoot m r → r < m - r * r → rootNear m ≡ r + 1
+up-is m r h g = near-root m r h ∙ sym (nearest-up r (4 * m) ((2 * r + 1) * (2 * r + 1)) (omega (arith, h .low)))
 
 pub down-is : (m r : ℕ) → IsRoot m r → m - r * r ≤ r → rootNear m ≡ r
-unfolding rootNear
-down-is m r h g =
-    let l : r * r ≤ m = h .low in
-    ap (λ (q : ℕ). nearest q (compare (4 * m) ((2 * q + 1) * (2 * q + 1)))) (isqrt-of m r h)
-    ∙ sym (nearest-down r (4 * m) ((2 * r + 1) * (2 * r + 1)) (omega arith))
+down-is m r h g = near-root m r h ∙ sym (nearest-down r (4 * m) ((2 * r + 1) * (2 * r + 1)) (omega (arith, h .low)))
 
 -- a number within a half of the root is the root, rounded
 pub near-is : (m r : ℕ) → r * r < m + r → m ≤ r * r + r → rootNear m ≡ r
 near-is m zero l h = absurd (let g : m < 0 = (let z : m < 0 = omega (arith, l, h) in z) in omega arith)
-near-is m (suc k) l h = go (leb (suc k * suc k) m) (leb→le (suc k * suc k) m) (nleb→lt (suc k * suc k) m)
-  where
-    go : (b : Bool) → (T b → suc k * suc k ≤ m) → (T (not b) → m < suc k * suc k) → rootNear m ≡ suc k
-    go true p q = down-is m (suc k) (record { low = p tt; high = omega (arith, h) }) (omega (arith, h))
-    go false p q = let z : m < suc k * suc k = q tt in
-        up-is m k (record { low = omega (arith, l); high = omega (arith, z) }) (omega (arith, l)) ∙ (let e : k + 1 ≡ suc k = omega arith in e)
+near-is m (suc k) l h =
+    elim (le-or-lt (suc k * suc k) m) [
+      | inl p ↦ down-is m (suc k) (record { low = p; high = omega (arith, h) }) (omega (arith, h))
+      | inr z ↦ up-is m k (record { low = omega (arith, l); high = omega (arith, z) }) (omega (arith, l)) ∙ (let e : k + 1 ≡ suc k = omega arith in e)
+    ]

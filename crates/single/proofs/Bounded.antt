@@ -3,7 +3,7 @@ use mathlib.Core.Path.{_≡_, refl, sym, ap, subst, _∙_}
 use mathlib.Core.Bool.{Bool, true, false, cond}
 use Prim.Native.Nat.{ℕ, zero, suc, _+_, _*_, _^_, _≤_, _<_}
 use native.Mathlib.Omega.{arith}
-use native.Mathlib.Nat.{mul-one, one-mul, zero-mul, mul-assoc, mul-comm, mul-right-comm, mul-mul-mul-comm, mul-pos, mul-le-mul, le-refl, le-trans, le-of-eq, zero-lt-suc, lt-of-lt-of-le, not-le-of-lt}
+use native.Mathlib.Nat.{mul-one, zero-mul, mul-assoc, mul-comm, mul-right-comm, mul-mul-mul-comm, mul-pos, mul-le-mul, le-refl, le-trans, le-of-eq, zero-lt-suc, lt-of-lt-of-le, not-le-of-lt}
 use borrow.Author.Tests.{ne-eqb}
 use lib.Dec.{T, ltb, eqb, lit≤}
 use lib.IntN.{pos}
@@ -57,7 +57,7 @@ unfolding le lt eq
 least-le nan k s h = absurd h
 least-le (inf t) k s h = tt
 least-le (fin true m e) k s h = absurd (subst T s tt)
-least-le (fin false m e) k s h = subst (λ (x : ℕ). 2 ^ k * down e ≤ x) (mul-one (m * up e)) (subst (λ (x : ℕ). x * down e ≤ m * up e * 1) (one-mul (2 ^ k)) (or-le (1 * 2 ^ k * down e) (m * up e * 1) h))
+least-le (fin false m e) k s h = let l : 1 * 2 ^ k * down e ≤ m * up e * 1 = or-le (1 * 2 ^ k * down e) (m * up e * 1) h in omega arith
 
 pub round-sign : (s : Bool) (a b : ℕ) → isNegative (round binary32 s a b) ≡ s
 round-sign s a b = ap isNegative (round-is binary32 s a b) ∙ units-minus _ _
@@ -108,21 +108,13 @@ Within (fin t n d) (inf s) = ⊥
 Within nan x = ⊥
 Within (inf t) x = ⊥
 
-within-neg : (y x : Float) → Within y x → Within y (neg x)
+neg-within : (y x : Float) → Within y x → Within y (neg x) × Within (neg y) x
 unfolding neg
-within-neg nan x w = w
-within-neg (inf t) x w = w
-within-neg (fin t n d) nan w = w
-within-neg (fin t n d) (inf s) w = w
-within-neg (fin t n d) (fin s m e) w = w
-
-of-neg : (y x : Float) → Within y x → Within (neg y) x
-unfolding neg
-of-neg nan x w = w
-of-neg (inf t) x w = w
-of-neg (fin t n d) nan w = w
-of-neg (fin t n d) (inf s) w = w
-of-neg (fin t n d) (fin s m e) w = w
+neg-within nan x w = absurd w
+neg-within (inf t) x w = absurd w
+neg-within (fin t n d) nan w = absurd w
+neg-within (fin t n d) (inf s) w = absurd w
+neg-within (fin t n d) (fin s m e) w = (w, w)
 
 le-within : (x y : Float) → isNegative x ≡ false → isNegative y ≡ false → T (finite y) → T (le x y) → Within y x
 unfolding le lt eq
@@ -147,14 +139,14 @@ neg-finite (fin s m e) f = f
 
 right-within : (s : Bool) (y : Float) (a b : ℕ) → Within y (round binary32 false a b) → Within y (round binary32 s a b)
 right-within false y a b w = w
-right-within true y a b w = subst (Within y) (round-neg false a b) (within-neg y (round binary32 false a b) w)
+right-within true y a b w = subst (Within y) (round-neg false a b) (neg-within y (round binary32 false a b) w .0)
 
 round-within : (s t : Bool) (a b c d : ℕ) → 0 < b → 0 < d → a * d ≤ c * b → T (finite (round binary32 t c d)) → Within (round binary32 t c d) (round binary32 s a b)
 round-within s false a b c d B D h f = right-within s (round binary32 false c d) a b (plus-within a b c d B D h f)
 round-within s true a b c d B D h f =
     right-within s (round binary32 true c d) a b
     (subst (λ (y : Float). Within y (round binary32 false a b)) (round-neg false c d)
-    (of-neg (round binary32 false c d) (round binary32 false a b) (plus-within a b c d B D h (neg-finite (round binary32 false c d) (subst (λ (y : Float). T (finite y)) (sym (round-neg false c d)) f)))))
+    (neg-within (round binary32 false c d) (round binary32 false a b) (plus-within a b c d B D h (neg-finite (round binary32 false c d) (subst (λ (y : Float). T (finite y)) (sym (round-neg false c d)) f))) .1))
 
 swap : (a b c d : ℕ) → a * b * (c * d) ≡ a * d * (b * c)
 swap a b c d = ap (λ (x : ℕ). a * b * x) (mul-comm c d) ∙ mul-mul-mul-comm a b d c

@@ -1,11 +1,19 @@
--- What `compare` says, and `nearest` by it. Assumes nothing.
+-- Which of two numbers is larger, what `compare` says, and `nearest` by it. Assumes nothing.
 use mathlib.Core.Path.{_≡_, refl, subst}
-use mathlib.Core.Bool.{not}
+use mathlib.Core.Bool.{Bool, true, false, not}
+use mathlib.Core.Logic.{_⊎_, inl, inr}
 use Prim.Native.Nat.{ℕ, _+_, _%_, _≤_, _<_, compare, Ordering, Ordering·lt, Ordering·eq, Ordering·gt}
 use native.Mathlib.Omega.{arith}
-use lib.Dec.{T, leb→le, nleb→lt, eqb→eq, eqb-refl, isLe, isEq, eqb}
+use lib.Dec.{T, leb, leb→le, nleb→lt, eqb→eq, eqb-refl, isLe, isEq, eqb}
 use lib.Arith.{lt-of-le-ne}
 use lib.Ieee.{nearest}
+
+pub le-or-lt : (a b : ℕ) → (a ≤ b) ⊎ (b < a)
+le-or-lt a b = go (leb a b) (leb→le a b) (nleb→lt a b)
+  where
+    go : (t : Bool) → (T t → a ≤ b) → (T (not t) → b < a) → (a ≤ b) ⊎ (b < a)
+    go true f g = inl (f tt)
+    go false f g = inr (g tt)
 
 abbrev pub Cmp : Ordering → ℕ → ℕ → Type 0
 Cmp Ordering·lt a b = a < b

@@ -15,21 +15,27 @@ use borrow.Author.Tests.{lt-ltb}
 use Rattle.single.specs.Single.{unitsOf}
 use Rattle.single.proofs.Value.{round-to}
 
+both : (a b : Bool) → T (a && b) → T a × T b
+both a b t = (and-l a b t, and-r a b t)
+
 -- the tests of `fits` on a number above 0
 module _ (s : Bool) (n : ℕ) (d : ℤ) (t : T (fits binary32 (fin s (suc n) d))) where
-  three : T (eqb (suc n % 2) 1 && ltb (suc n) (2 ^ 24) && leb (down d) (2 ^ 149))
+  tests : T (eqb (suc n % 2) 1 && ltb (suc n) (2 ^ 24)) × T (leb (down d) (2 ^ 149)) × T (ltb (suc n * up d) (2 ^ 128 * down d))
   unfolding fits
-  three = and-l (eqb (suc n % 2) 1 && ltb (suc n) (2 ^ 24) && leb (down d) (2 ^ 149)) (ltb (suc n * up d) (2 ^ 128 * down d)) t
+  tests =
+      let digits = eqb (suc n % 2) 1 && ltb (suc n) (2 ^ 24) in
+      let p = both (digits && leb (down d) (2 ^ 149)) (ltb (suc n * up d) (2 ^ 128 * down d)) t in
+      let q = both digits (leb (down d) (2 ^ 149)) (p .0) in
+      (q .0, q .1, p .1)
 
   pub digits-small : suc n < 2 ^ 24
-  digits-small = ltb→lt (suc n) (2 ^ 24) (and-r (eqb (suc n % 2) 1) (ltb (suc n) (2 ^ 24)) (and-l (eqb (suc n % 2) 1 && ltb (suc n) (2 ^ 24)) (leb (down d) (2 ^ 149)) three))
+  digits-small = ltb→lt (suc n) (2 ^ 24) (and-r (eqb (suc n % 2) 1) (ltb (suc n) (2 ^ 24)) (tests .0))
 
   down-small : down d ≤ 2 ^ 149
-  down-small = leb→le (down d) (2 ^ 149) (and-r (eqb (suc n % 2) 1 && ltb (suc n) (2 ^ 24)) (leb (down d) (2 ^ 149)) three)
+  down-small = leb→le (down d) (2 ^ 149) (tests .1)
 
   value-small : suc n * up d < 2 ^ 128 * down d
-  unfolding fits
-  value-small = ltb→lt (suc n * up d) (2 ^ 128 * down d) (and-r (eqb (suc n % 2) 1 && ltb (suc n) (2 ^ 24) && leb (down d) (2 ^ 149)) (ltb (suc n * up d) (2 ^ 128 * down d)) t)
+  value-small = ltb→lt (suc n * up d) (2 ^ 128 * down d) (tests .2)
 
 -- its units are its digits times a power of two, and are its value
 pub whole : (s : Bool) (n : ℕ) (d : ℤ) → T (fits binary32 (fin s (suc n) d)) → (i : ℕ) × (unitsOf (suc n) d ≡ suc n * 2 ^ i) × (suc n * up d * 2 ^ 149 ≡ unitsOf (suc n) d * down d)

@@ -4,7 +4,7 @@ use mathlib.Core.Bool.{Bool, true, false, true≢false, false≢true}
 use Prim.Native.Nat.{ℕ, zero, suc, _+_, _-_, _^_, _≤_, _<_}
 use native.Mathlib.Nat.{le-of-lt, lt-of-lt-of-le, lt-suc-self}
 use native.Mathlib.Omega.{arith}
-use lib.IntN.{ℤ, pos, negsuc, negℤ, _-ℤ_, natAbs, +ℤ-idl}
+use lib.IntN.{ℤ, pos, negsuc, negℤ, _-ℤ_, natAbs, +ℤ-idl, pos-ne-negsuc}
 use lib.Signed.{leZ, nonNeg}
 use lib.Dec.{T, leb·zero}
 use mir.Syntax.{Width, w64}
@@ -14,6 +14,15 @@ use Rattle.single.specs.Single.{signed}
 
 abbrev pub back : Width → ℤ → ℤ
 back w z = toZ w (ofZ w z)
+
+-- what the test `z >= 0` tells
+pub is-plus : (w : Width) (z : ℤ) → SFits w z → leZ (pos 0) (back w z) ≡ true → z ≡ pos (natAbs z)
+is-plus w (pos a) F t = refl
+is-plus w (negsuc a) F t = absurd (false≢true (subst (λ (y : ℤ). leZ (pos 0) y ≡ true) (toZ-ofZ w (negsuc a) F) t))
+
+pub is-minus : (w : Width) (z : ℤ) → SFits w z → leZ (pos 0) (back w z) ≡ false → z ≡ negsuc (natAbs z - 1)
+is-minus w (pos a) F t = absurd (true≢false (sym (leb·zero a) ∙ subst (λ (y : ℤ). leZ (pos 0) y ≡ false) (toZ-ofZ w (pos a) F) t))
+is-minus w (negsuc a) F t = let z : a ≡ suc a - 1 = omega arith in ap negsuc z
 
 -- z is not negative: it can be cast, and is its own magnitude
 abbrev pub Plain : Width → ℤ → Type 0
@@ -26,16 +35,7 @@ pub plain : (w : Width) (z : ℤ) → 2 ^ hbits w + 2 ^ hbits w ≤ 2 ^ bits w �
 plain w (pos a) B F t =
     subst (λ (y : ℤ). (T (nonNeg y) × Fits w (natAbs y)) × (natAbs y ≡ a)) (sym (toZ-ofZ w (pos a) F))
     ((tt, record { fits = once a (2 ^ hbits w) (2 ^ bits w) B (F .sfits) }), refl)
-plain w (negsuc a) B F t = absurd (false≢true (subst (λ (y : ℤ). leZ (pos 0) y ≡ true) (toZ-ofZ w (negsuc a) F) t))
-
--- what the test `z >= 0` tells
-pub is-plus : (w : Width) (z : ℤ) → SFits w z → leZ (pos 0) (back w z) ≡ true → z ≡ pos (natAbs z)
-is-plus w (pos a) F t = refl
-is-plus w (negsuc a) F t = absurd (false≢true (subst (λ (y : ℤ). leZ (pos 0) y ≡ true) (toZ-ofZ w (negsuc a) F) t))
-
-pub is-minus : (w : Width) (z : ℤ) → SFits w z → leZ (pos 0) (back w z) ≡ false → z ≡ negsuc (natAbs z - 1)
-is-minus w (pos a) F t = absurd (true≢false (sym (leb·zero a) ∙ subst (λ (y : ℤ). leZ (pos 0) y ≡ false) (toZ-ofZ w (pos a) F) t))
-is-minus w (negsuc a) F t = let z : a ≡ suc a - 1 = omega arith in ap negsuc z
+plain w (negsuc a) B F t = absurd (pos-ne-negsuc (suc a) a (sym (is-plus w (negsuc a) F t)))
 
 -- ---- by its magnitude
 pub within : (w : Width) (z : ℤ) → natAbs z < 2 ^ hbits w → SFits w z

@@ -3,7 +3,7 @@ use mathlib.Core.Path.{_≡_, sym, ap, subst, _∙_}
 use mathlib.Core.Bool.{Bool, true, false, cond, not, _&&_, _||_, Bool·beq}
 use Prim.Native.Nat.{ℕ, zero, suc, _+_, _-_, _*_, _<_, _≤_, _^_}
 use native.Mathlib.Omega.{arith}
-use native.Mathlib.Nat.{le-trans, le-of-eq, le-refl, mul-le-mul, mul-comm, mul-assoc, mul-pos, one-mul, mul-one, add-mul, mul-mul-mul-comm}
+use native.Mathlib.Nat.{le-trans, le-of-eq, le-refl, mul-le-mul, mul-comm, mul-assoc, mul-pos, mul-one, add-mul, mul-mul-mul-comm}
 use lib.Dec.{T, ltb, eqb, ltb→lt, lt→ltb, eqb→eq, lit≤}
 use lib.IntN.{ℤ, pos}
 use lib.Ieee.{Float, nan, inf, fin, binary32, up, down, odd, units, round, unlike, neg, sum, add, sub, mul, lt, eq, le, isNan}
@@ -37,7 +37,7 @@ or-le a b h = go (ltb a b) (eqb a b) (ltb→lt a b) (eqb→eq a b) h
 -- below 2 ^ k or level with it
 le-mag : (m : ℕ) (e : ℤ) (k : ℕ) → T (le (fin false m e) (fin false 1 (pos k))) → m * up e ≤ 2 ^ k * down e
 unfolding le lt eq
-le-mag m e k h = subst (λ (z : ℕ). z ≤ 2 ^ k * down e) (mul-one (m * up e)) (subst (λ (z : ℕ). m * up e * 1 ≤ z * down e) (one-mul (2 ^ k)) (or-le (m * up e * 1) (1 * 2 ^ k * down e) h))
+le-mag m e k h = let l : m * up e * 1 ≤ 1 * 2 ^ k * down e = or-le (m * up e * 1) (1 * 2 ^ k * down e) h in omega arith
 
 odd-mag : (d : ℕ) (s : Bool) (q j l k : ℕ) → T (le (odd d false q j l) (fin false 1 (pos k))) → Mag (2 ^ k) (odd d s q j l)
 unfolding odd
@@ -122,8 +122,8 @@ pub or-i : (p q : Bool) → T p → T (p || q)
 or-i true q t = tt
 or-i false q t = absurd t
 
-wide : (b a d : ℕ) → b < 2 ^ 63 → 0 < d → a ≤ b * d → a * 1 < 1 * 2 ^ 63 * d
-wide b a d l D f = let g : suc b * d ≤ 2 ^ 63 * d = mul-le-mul l (le-refl d) in omega arith
+below-i64 : (b m : ℕ) (e : ℤ) → b < 2 ^ 63 → m * up e ≤ b * down e → T (ltb (m * up e * 1) (1 * 2 ^ 63 * down e))
+below-i64 b m e l f = let g : suc b * down e ≤ 2 ^ 63 * down e = mul-le-mul l (le-refl (down e)) in lt→ltb (m * up e * 1) (1 * 2 ^ 63 * down e) (omega (arith, down-pos e))
 
 -- within ±2 ^ k, as two comparisons say it
 pub mag-of : (x : Float) (k : ℕ) → T (le (fin true 1 (pos k)) x) → T (le x (fin false 1 (pos k))) → Mag (2 ^ k) x
@@ -132,7 +132,7 @@ mag-of nan k h g = absurd h
 mag-of (inf true) k h g = absurd h
 mag-of (inf false) k h g = absurd g
 mag-of (fin false m e) k h g = le-mag m e k g
-mag-of (fin true m e) k h g = subst (λ (z : ℕ). z ≤ 2 ^ k * down e) (mul-one (m * up e)) (subst (λ (z : ℕ). m * up e * 1 ≤ z * down e) (one-mul (2 ^ k)) (or-ge (1 * 2 ^ k * down e) (m * up e * 1) h))
+mag-of (fin true m e) k h g = let l : m * up e * 1 ≤ 1 * 2 ^ k * down e = or-ge (1 * 2 ^ k * down e) (m * up e * 1) h in omega arith
 
 -- b below 2 ^ 63: what `truncating_f32_to_i64` asks
 pub in-i64 : (x : Float) (b : ℕ) → b < 2 ^ 63 → Mag b x → T (le (fin true 1 (pos 63)) x) × T (lt x (fin false 1 (pos 63)))
@@ -141,9 +141,9 @@ in-i64 nan b l f = absurd f
 in-i64 (inf s) b l f = absurd f
 in-i64 (fin false m e) b l f = (
   or-i (ltb 0 (1 * 2 ^ 63 * down e + m * up e * 1)) _ (lt→ltb 0 (1 * 2 ^ 63 * down e + m * up e * 1) (let d : 0 < down e = down-pos e in omega arith)),
-  lt→ltb (m * up e * 1) (1 * 2 ^ 63 * down e) (wide b (m * up e) (down e) l (down-pos e) f),
+  below-i64 b m e l f,
 )
 in-i64 (fin true m e) b l f = (
-  or-i (ltb (m * up e * 1) (1 * 2 ^ 63 * down e)) _ (lt→ltb (m * up e * 1) (1 * 2 ^ 63 * down e) (wide b (m * up e) (down e) l (down-pos e) f)),
+  or-i (ltb (m * up e * 1) (1 * 2 ^ 63 * down e)) _ (below-i64 b m e l f),
   lt→ltb 0 (m * up e * 1 + 1 * 2 ^ 63 * down e) (let d : 0 < down e = down-pos e in omega arith),
 )

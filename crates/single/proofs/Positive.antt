@@ -4,9 +4,10 @@ use mathlib.Core.Bool.{Bool, true, false, not, cond, _||_, Bool·beq}
 use Prim.Native.Nat.{ℕ, zero, suc, _+_, _-_, _*_, _/_, _%_, _^_, _≤_, _<_}
 use native.Mathlib.Omega.{arith}
 use native.Mathlib.Nat.{mul-one, mul-right-comm, mul-pos, mul-div-cancel, zero-mul, lt-irrefl, lt-of-lt-of-le, lt-of-not-le, not-le-of-lt, zero-lt-suc}
+use mathlib.Core.Logic.{inl, inr}
 use borrow.Author.Tests.{ltb-false}
 use lib.IntN.{ℤ}
-use lib.Dec.{T, leb, eqb, eqb→eq, lit≤, leb→le, nleb→lt}
+use lib.Dec.{T, eqb, eqb→eq, lit≤, nleb→lt}
 use lib.Pow.{pow-pos, pow-mono, shl-lt}
 use lib.Ieee.{Float, nan, inf, fin, binary32, up, down, lt, eq, mul, div, level, fits, isNan, toBits, ofBits}
 use lib.Ieee.Bits.{ofBits-toBits}
@@ -14,6 +15,7 @@ use lib.Ieee.Fits.{and-l, down-pos, up-pos, mul-fits}
 use lib.Ieee.Exact.{HasValue, round-exact}
 use lib.Ieee.Scale.{round-same}
 use Rattle.single.proofs.Booleans.{holds}
+use Rattle.single.proofs.Compare.{le-or-lt}
 use Rattle.single.specs.Single.{isNegative, onPositive}
 use Rattle.single.proofs.Sign.{sign-bit}
 use Rattle.single.proofs.Value.{value-same, bits-normal, bits-low, bits-top}
@@ -77,7 +79,7 @@ zero-no : lt (ofBits binary32 0) (ofBits binary32 0) ≡ false
 unfolding lt ofBits
 zero-no = refl
 
-pub low-pos : (y : Float) → T (fits binary32 y) → lt (ofBits binary32 0) y ≡ true → 0 < toBits binary32 y
+low-pos : (y : Float) → T (fits binary32 y) → lt (ofBits binary32 0) y ≡ true → 0 < toBits binary32 y
 low-pos y f h = go (toBits binary32 y) (ofBits-toBits binary32 y f)
   where
     go : (b : ℕ) → ofBits binary32 b ≡ y → 0 < b
@@ -112,35 +114,6 @@ normalUnits b = (8388608 + b % 8388608) * 2 ^ (b / 8388608 - 1)
 pub normalUnits-pos : (b : ℕ) → 0 < normalUnits b
 normalUnits-pos b = mul-pos (let z : 0 < 8388608 + b % 8388608 = omega arith in z) (pow-pos (b / 8388608 - 1))
 
-module _ (y : Float) (f : T (fits binary32 y)) (p : lt (ofBits binary32 0) y ≡ true) (h : toBits binary32 y < 8388608) where
-  abbrev n : ℕ
-  n = toBits binary32 y
-
-  abbrev b : ℕ
-  b = toBits binary32 (scaled y)
-
-  scaled-value : HasValue (scaled y) false (n * 2 ^ 24) (2 ^ 149)
-  scaled-value = times y n h (low-value y f h)
-
-  pub scaled-no-nan : T (not (isNan (scaled y)))
-  scaled-no-nan = value-no-nan (scaled y) (n * 2 ^ 24) (2 ^ 149) scaled-value
-
-  pub scaled-below : b < 2139095040
-  scaled-below = finite-below (scaled y) (n * 2 ^ 24) (2 ^ 149) (scaled-fits y) scaled-value
-
-  pub scaled-normal : 8388608 ≤ b
-  scaled-normal = go (leb 8388608 b) (leb→le 8388608 b) (nleb→lt 8388608 b) (low-pos y f p)
-    where
-      go : (t : Bool) → (T t → 8388608 ≤ b) → (T (not t) → b < 8388608) → 0 < n → 8388608 ≤ b
-      go true u v g = u tt
-      go false u v g =
-          let l : b < 8388608 = v tt in
-          let e : b ≡ n * 2 ^ 24 = value-same (scaled y) false b (n * 2 ^ 24) (2 ^ 149) (low-value (scaled y) (scaled-fits y) l) scaled-value in
-          omega arith
-
-  pub scaled-units : n * 2 ^ 24 ≡ normalUnits b
-  scaled-units = value-same (scaled y) false (n * 2 ^ 24) (normalUnits b) (2 ^ 149) scaled-value (normal-value (scaled y) (scaled-fits y) scaled-normal scaled-below)
-
 -- ---- the cases of `onPositive`, by the tests y > 0.0, y == 0.0 and by the pattern
 none : (a : ℕ) → 0 * a * 2 ^ 149 ≡ 0
 none a = ap (λ (x : ℕ). x * 2 ^ 149) (zero-mul a) ∙ zero-mul (2 ^ 149)
@@ -161,18 +134,15 @@ module _ (z : Float) (f : ℕ → Float) where
   on-value (fin false zero e) a A v = absurd (not-le-of-lt (mul-pos A (down-pos e)) (let g : a * down e ≡ 0 = sym (v .1) ∙ none (up e) in let w : a * down e ≤ 0 = omega arith in w))
   on-value (fin false (suc n) e) a A v = ap f (ap (λ (x : ℕ). x / down e) (v .1) ∙ mul-div-cancel a (down-pos e))
 
-  pub on-normal : (y : Float) → T (fits binary32 y) → 8388608 ≤ toBits binary32 y → toBits binary32 y < 2139095040 → onPositive z f y ≡ f (normalUnits (toBits binary32 y))
-  on-normal y g l h = on-value y (normalUnits (toBits binary32 y)) (normalUnits-pos (toBits binary32 y)) (normal-value y g l h)
-
-  pub on-subnormal : (y : Float) → T (fits binary32 y) → lt (ofBits binary32 0) y ≡ true → toBits binary32 y < 8388608 → onPositive z f y ≡ f (toBits binary32 y)
-  on-subnormal y g p h = on-value y (toBits binary32 y) (low-pos y g p) (low-value y g h)
+  pub on-normal : (y : Float) → fits binary32 y ≡ true → 8388608 ≤ toBits binary32 y → toBits binary32 y < 2139095040 → onPositive z f y ≡ f (normalUnits (toBits binary32 y))
+  on-normal y g l h = on-value y (normalUnits (toBits binary32 y)) (normalUnits-pos (toBits binary32 y)) (normal-value y (holds g) l h)
 
   on-inf : onPositive z f (inf false) ≡ inf false
   unfolding onPositive
   on-inf = refl
 
-  pub on-top : (y : Float) → T (fits binary32 y) → lt (ofBits binary32 0) y ≡ true → 2139095040 ≤ toBits binary32 y → y ≡ onPositive z f y
-  on-top y g p h = subst (λ (x : Float). x ≡ onPositive z f x) (sym (at-top y g p h)) (sym on-inf)
+  pub on-top : (y : Float) → fits binary32 y ≡ true → lt (ofBits binary32 0) y ≡ true → 2139095040 ≤ toBits binary32 y → y ≡ onPositive z f y
+  on-top y g p h = subst (λ (x : Float). x ≡ onPositive z f x) (sym (at-top y (holds g) p h)) (sym on-inf)
 
   pub on-zero : (y : Float) → eq y (ofBits binary32 0) ≡ true → onPositive z f y ≡ z
   unfolding eq ofBits onPositive
@@ -190,3 +160,48 @@ module _ (z : Float) (f : ℕ → Float) where
   on-other (fin s zero e) g h = absurd (subst T (sym (level-zero s (0 * up e * 1) (0 * down e) (ap (λ (x : ℕ). x * 1) (zero-mul (up e))) (zero-mul (down e))) ∙ h) tt)
   on-other (fin true (suc m) e) g h = refl
   on-other (fin false (suc m) e) g h = absurd (not-le-of-lt (scaled-pos m e) (subst (λ (x : ℕ). suc m * up e * 1 ≤ x) (zero-mul (down e)) (ltb-false (0 * down e) (suc m * up e * 1) g)))
+
+-- ---- a positive number that is not normal, by the number 2 ^ 24 times as large
+pub record Subnormal (y : Float) : Type 0 where
+  pub some : 0 < toBits binary32 y
+  pub no-nan : T (not (isNan (scaled y)))
+  pub normal : 8388608 ≤ toBits binary32 (scaled y)
+  pub below : toBits binary32 (scaled y) < 2139095040
+  pub units : toBits binary32 y * 2 ^ 24 ≡ normalUnits (toBits binary32 (scaled y))
+  pub on : (z : Float) (f : ℕ → Float) → onPositive z f y ≡ f (toBits binary32 y)
+
+module _ (y : Float) (g : fits binary32 y ≡ true) (p : lt (ofBits binary32 0) y ≡ true) (h : toBits binary32 y < 8388608) where
+  abbrev n : ℕ
+  n = toBits binary32 y
+
+  abbrev b : ℕ
+  b = toBits binary32 (scaled y)
+
+  some-units : 0 < n
+  some-units = low-pos y (holds g) p
+
+  scaled-value : HasValue (scaled y) false (n * 2 ^ 24) (2 ^ 149)
+  scaled-value = times y n h (low-value y (holds g) h)
+
+  scaled-below : b < 2139095040
+  scaled-below = finite-below (scaled y) (n * 2 ^ 24) (2 ^ 149) (scaled-fits y) scaled-value
+
+  scaled-normal : 8388608 ≤ b
+  scaled-normal =
+      elim (le-or-lt 8388608 b) [
+        | inl m ↦ m
+        | inr l ↦
+            let e : b ≡ n * 2 ^ 24 = value-same (scaled y) false b (n * 2 ^ 24) (2 ^ 149) (low-value (scaled y) (scaled-fits y) l) scaled-value in
+            omega (arith, some-units)
+      ]
+
+  pub subnormal : Subnormal y
+  subnormal =
+      record {
+        some = some-units;
+        no-nan = value-no-nan (scaled y) (n * 2 ^ 24) (2 ^ 149) scaled-value;
+        normal = scaled-normal;
+        below = scaled-below;
+        units = value-same (scaled y) false (n * 2 ^ 24) (normalUnits b) (2 ^ 149) scaled-value (normal-value (scaled y) (scaled-fits y) scaled-normal scaled-below);
+        on = λ z f. on-value z f y n some-units (low-value y (holds g) h);
+      }

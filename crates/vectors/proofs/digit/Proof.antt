@@ -1,4 +1,7 @@
-use Prim.Native.Nat.{_<_, _≤_}
+use Prim.Native.Nat.{ℕ, _-_, _<_, _≤_}
+use mathlib.Core.Path.{_≡_}
+use mathlib.Core.Bool.{cond}
+use lib.Dec.{leb}
 use borrow.Author.Tests.{le-leb, lt-leb}
 use native.Mathlib.Omega.{arith}
 use Rattle.vectors.specs.Line.{digitOf}
@@ -18,13 +21,15 @@ returns-3 : tie.Need-returns-3
 unfolding digitOf
 returns-3 c = simp (le-leb 48 _ (c .before .before .if1 .left), lt-leb _ 57 (c .before .if2 .left), lt-leb 97 _ (c .if3 .taken))
 
-returns-4 : tie.Need-returns-4
+letter : (b : ℕ) → 97 ≤ b → digitOf b ≡ cond (leb b 102) (b - 87) 0
 unfolding digitOf
-returns-4 c = simp (le-leb 48 (c .before .before .before .before .args .b) (let z : 48 ≤ c .before .before .before .before .args .b = omega arith in z), lt-leb (c .before .before .before .before .args .b) 57 (let z : 57 < c .before .before .before .before .args .b = omega arith in z), le-leb 97 _ (c .before .if3 .left), le-leb _ 102 (c .if4 .taken))
+letter b h = simp (le-leb 48 b (let z : 48 ≤ b = omega arith in z), lt-leb b 57 (let z : 57 < b = omega arith in z), le-leb 97 b h)
+
+returns-4 : tie.Need-returns-4
+returns-4 c = simp (letter _ (c .before .if3 .left), le-leb _ 102 (c .if4 .taken))
 
 returns-5 : tie.Need-returns-5
-unfolding digitOf
-returns-5 c = simp (le-leb 48 (c .before .before .before .before .args .b) (let z : 48 ≤ c .before .before .before .before .args .b = omega arith in z), lt-leb (c .before .before .before .before .args .b) 57 (let z : 57 < c .before .before .before .before .args .b = omega arith in z), le-leb 97 _ (c .before .if3 .left), lt-leb _ 102 (c .if4 .left))
+returns-5 c = simp (letter _ (c .before .if3 .left), lt-leb _ 102 (c .if4 .left))
 
 pub digit-spec : {M : Type 1} → statement M
 digit-spec =

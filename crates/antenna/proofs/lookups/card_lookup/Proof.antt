@@ -1,25 +1,31 @@
-use mathlib.Core.Path.{sym, _∙_}
+use mathlib.Core.Path.{_≡_, sym, _∙_}
 use lib.Ieee.{round, ofBits}
 use mir.Syntax.{w32}
+use mir.Val.{toZ, ofZ}
 use mir.ValLaws.{toZ-ofZ}
 use borrow.Author.Tests.{eq-eqb, ne-eqb}
-use Rattle.antenna.specs.Lookups.{lookupNumber, lookupValues, cardLookupValues}
+use Rattle.antenna.specs.Lookups.{lookupNumber, lookupValues, cardLookupNumber, cardLookupValues}
 use Rattle.lookup_refusals.proofs.Accepted.{card-accepted}
 use Rattle.antenna.proofs.Bounds.{low-in, high-in}
 use borrow.Author.Needs.{needs}
 use Rattle.antenna.proofs.lookups.card_lookup.Statement.{statement}
 use Rattle.antenna.proofs.lookups.card_lookup.Tie as tie
 
+-- the first and the last MHz as the machine reads them back
+signed : (c : tie.Start) → (toZ w32 (ofZ w32 (c .args .first)) ≡ c .args .first) × (toZ w32 (ofZ w32 (c .args .last)) ≡ c .args .last)
+signed c = (toZ-ofZ w32 _ (search needs), toZ-ofZ w32 _ (search needs))
+
+number : (c : tie.After-card-refusal) → let a = c .before .before .args in c .card-refusal .result ≡ cardLookupNumber (a .first) (a .last) (a .verdict) (a .table .now) (a .fmc) (a .delta)
+number c = let r = signed (c .before .before) in rw (r .0, r .1) at (c .card-refusal .ensures)
+
 returns : tie.Need-returns
 unfolding lookupNumber lookupValues cardLookupValues
-returns c =
-    let e = rw (toZ-ofZ w32 (c .before .before .before .args .first) (search needs), toZ-ofZ w32 (c .before .before .before .args .last) (search needs)) at (c .before .card-refusal .ensures) in
-    (e, rw (← e, ne-eqb _ 0 (c .if1 .taken)))
+returns c = let e = number (c .before) in (e, rw (← e, ne-eqb _ 0 (c .if1 .taken)))
 
 returns-2 : tie.Need-returns-2
 unfolding lookupNumber lookupValues cardLookupValues round ofBits
 returns-2 c =
-    let e = rw (toZ-ofZ w32 (c .before .before .before .before .args .first) (search needs), toZ-ofZ w32 (c .before .before .before .before .args .last) (search needs)) at (c .before .before .card-refusal .ensures) in
+    let e = number (c .before .before) in
     (sym (c .before .if1 .left) ∙ e, rw (← e, eq-eqb _ 0 (c .before .if1 .left), ne-eqb _ 0 (c .if2 .taken)))
 
 locate-requires : tie.Need-locate-requires
@@ -34,12 +40,12 @@ card-row-requires-2 c κs = (card-accepted _ _ _ _ _ _ (sym (c .before .before .
 returns-3 : tie.Need-returns-3
 unfolding lookupNumber lookupValues cardLookupValues
 returns-3 c =
-    let e = rw (toZ-ofZ w32 (c .before .before .before .before .before .before .before .before .args .first) (search needs), toZ-ofZ w32 (c .before .before .before .before .before .before .before .before .args .last) (search needs)) at (c .before .before .before .before .before .before .card-refusal .ensures) in
-    let low = rw (toZ-ofZ w32 (c .before .before .before .before .before .before .before .before .args .first) (search needs), toZ-ofZ w32 (c .before .before .before .before .before .before .before .before .args .last) (search needs)) at (c .before .before .card-row .ensures) in
-    let high = rw (toZ-ofZ w32 (c .before .before .before .before .before .before .before .before .args .first) (search needs), toZ-ofZ w32 (c .before .before .before .before .before .before .before .before .args .last) (search needs)) at (c .before .card-row2 .ensures) in (
-      sym (c .before .before .before .before .before .if1 .left) ∙ e,
-      rw (← e, eq-eqb _ 0 (c .before .before .before .before .before .if1 .left), eq-eqb _ 0 (c .before .before .before .before .if2 .left), ← c .before .before .before .locate .ensures, ← low, ← high, ← c .blend .ensures),
-    )
+    let e = number (c .before .before .before .before .before .before) in
+    let r = signed (c .before .before .before .before .before .before .before .before) in
+    let low = rw (r .0, r .1) at (c .before .before .card-row .ensures) in
+    let high = rw (r .0, r .1) at (c .before .card-row2 .ensures) in
+    let z = c .before .before .before .before .before .if1 .left in
+    (sym z ∙ e, rw (← e, eq-eqb _ 0 z, eq-eqb _ 0 (c .before .before .before .before .if2 .left), ← c .before .before .before .locate .ensures, ← low, ← high, ← c .blend .ensures))
 
 pub card-lookup-spec : {M : Type 1} → statement M
 card-lookup-spec =

@@ -1,12 +1,11 @@
-use mathlib.Core.Path.{_≡_, _∙_}
-use mathlib.Core.Bool.{true, false}
-use mathlib.Core.List.{List}
-use Prim.Native.Nat.{ℕ, _≤_}
+use mathlib.Core.Path.{_≡_, refl}
+use mathlib.Core.Bool.{cond, _&&_}
+use Prim.Native.Nat.{_≤_}
 use native.Mathlib.Omega.{arith}
-use lib.IntN.{ℤ, pos}
 use lib.Signed.{leZ}
-use lib.Ieee.{Float, round, ofBits}
+use lib.Ieee.{round, ofBits}
 use mir.Syntax.{w32}
+use mir.Val.{toZ, ofZ}
 use mir.ValLaws.{toZ-ofZ, toZ-pos}
 use Rattle.table.specs.Range.{isFilled}
 use Rattle.antenna.specs.Rows.{rowOf, zeroRow, filledRow}
@@ -14,30 +13,21 @@ use borrow.Author.Needs.{needs}
 use Rattle.antenna.proofs.rows.card_row.Statement.{statement}
 use Rattle.antenna.proofs.rows.card_row.Tie as tie
 
--- x, y and z are the numbers as the machine reads them back
-module _ (first last : ℤ) (t : List Float) (m j jp1 : ℕ) (x y z : ℤ) (a : x ≡ first) (b : y ≡ last) (d : z ≡ pos m) where
-  filled : leZ x z ≡ true → leZ z y ≡ true → rowOf t m j jp1 ≡ filledRow first last t m j jp1
-  unfolding filledRow isFilled
-  filled e f = rw (← a, ← b, ← d, e, f)
-
-  above : leZ x z ≡ true → leZ z y ≡ false → zeroRow ≡ filledRow first last t m j jp1
-  unfolding filledRow isFilled
-  above e f = rw (← a, ← b, ← d, e, f)
-
-  below : leZ x z ≡ false → zeroRow ≡ filledRow first last t m j jp1
-  unfolding filledRow isFilled
-  below e = rw (← a, ← d, e)
+-- by the tests of the code, whose numbers the machine reads back
+by-tests : (c : tie.Start) → let a = c .args in let mhz = toZ w32 (a .m) in filledRow (a .first) (a .last) (a .table .now) (a .m) (a .j) (a .jp1) ≡ cond (leZ (toZ w32 (ofZ w32 (a .first))) mhz && leZ mhz (toZ w32 (ofZ w32 (a .last)))) (rowOf (a .table .now) (a .m) (a .j) (a .jp1)) zeroRow
+unfolding filledRow isFilled
+by-tests c = rw (toZ-ofZ w32 (c .args .first) (search needs), toZ-ofZ w32 (c .args .last) (search needs), toZ-pos w32 (c .args .m) (let h : c .args .m ≤ 30 = c .pre .1 .last in omega arith)) refl
 
 returns : tie.Need-returns
-returns c = c .row-at .ensures ∙ filled (c .before .before .before .before .args .first) (c .before .before .before .before .args .last) _ (c .before .before .before .before .args .m) _ _ _ _ _ (toZ-ofZ w32 _ (search needs)) (toZ-ofZ w32 _ (search needs)) (toZ-pos w32 _ (let h : c .before .before .before .before .args .m ≤ 30 = c .before .before .before .before .pre .1 .last in omega arith)) (c .before .before .if1 .taken) (c .before .if2 .taken)
+returns c = rw (by-tests (c .before .before .before .before), c .before .before .if1 .taken, c .before .if2 .taken) (c .row-at .ensures)
 
 returns-2 : tie.Need-returns-2
 unfolding round ofBits
-returns-2 c = above (c .before .before .before .args .first) (c .before .before .before .args .last) _ (c .before .before .before .args .m) _ _ _ _ _ (toZ-ofZ w32 _ (search needs)) (toZ-ofZ w32 _ (search needs)) (toZ-pos w32 _ (let h : c .before .before .before .args .m ≤ 30 = c .before .before .before .pre .1 .last in omega arith)) (c .before .if1 .taken) (c .if2 .left)
+returns-2 c = rw (by-tests (c .before .before .before), c .before .if1 .taken, c .if2 .left) refl
 
 returns-3 : tie.Need-returns-3
 unfolding round ofBits
-returns-3 c = below (c .before .before .args .first) (c .before .before .args .last) _ (c .before .before .args .m) _ _ _ _ _ (toZ-ofZ w32 _ (search needs)) (toZ-ofZ w32 _ (search needs)) (toZ-pos w32 _ (let h : c .before .before .args .m ≤ 30 = c .before .before .pre .1 .last in omega arith)) (c .if1 .left)
+returns-3 c = rw (by-tests (c .before .before), c .if1 .left) refl
 
 pub card-row-spec : {M : Type 1} → statement M
 card-row-spec = tie.close (tie.spec (λ c. search needs) (λ c κs. search needs) returns returns-2 returns-3)

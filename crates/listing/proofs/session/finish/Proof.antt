@@ -28,7 +28,7 @@ counts-requires-2 : tie.Need-counts-requires-2
 counts-requires-2 c κs = let r = ready (c .before .before .before .before .before .before .before .before .before .before .before .before .before) in let l : length (c .before .before .before .before .before .before .before .list-line .last .1 .1 .1 .1 .0) ≡ length (c .before .before .before .before .before .before .before .before .before .before .before .before .before .before .before .before .before .before .before .before .args .out .now) = search needs in omega (arith, c .before .before .before .before .before .before .before .list-line .ensures .within, l, r .room)
 
 returns-3 : tie.Need-returns-3
-returns-3 c = finish-held _ _ _ _ _ _ (c .before .before .before .before .before .before .before .before .before .before .before .before .before .before .before .before .before .is-ready .ensures) _ _ _ _ (c .before .before .before .before .before .before .before .before .before .before .list-line .result) _ (c .before .before .before .before .before .before .before .before .before .before .before .before .before .before .before .before .if1 .left) (c .before .before .before .before .before .before .before .before .before .before .before .before .before .before .before .held-in .ensures) (c .before .before .before .before .before .before .before .before .before .before .before .before .before .if2 .left) (c .before .before .before .before .before .before .before .before .before .before .list-line .ensures) (c .before .before .counts2 .ensures)
+returns-3 c = finish-held _ _ _ _ _ _ (c .before .before .before .before .before .before .before .before .before .before .before .before .before .before .before .before .before .is-ready .ensures) _ _ _ (c .before .before .before .before .before .before .before .before .before .before .list-line .result) _ (c .before .before .before .before .before .before .before .before .before .before .before .before .before .before .before .before .if1 .left) (c .before .before .counts2 .ensures) _ (c .before .before .before .before .before .before .before .before .before .before .before .before .before .before .before .held-in .ensures) (c .before .before .before .before .before .before .before .before .before .before .before .before .before .if2 .left) (c .before .before .before .before .before .before .before .before .before .before .list-line .ensures)
 
 pub finish-spec : {M : Type 1} → statement M
 finish-spec =

@@ -9,7 +9,7 @@ float-to-float-y : tie.Need-float-to-float-y
 float-to-float-y c = widens _ (c .row-known .given) (c .before .pre .0)
 
 truncating-f64-to-u64-requires : tie.Need-truncating-f64-to-u64-requires
-truncating-f64-to-u64-requires c κs = let k = (counted (c .before .args .x) (c .row-known .given) (c .before .pre .0) (c .before .pre .1)) in (k .over, k .under)
+truncating-f64-to-u64-requires c κs = counted (c .before .args .x) (c .row-known .given) (c .before .pre .0) (c .before .pre .1) .in-u64
 
 add-result : tie.Need-add-result
 add-result c = let k = (counted (c .before .before .args .x) (c .before .row-known .given) (c .before .before .pre .0) (c .before .before .pre .1)) in omega (arith, k .small, c .truncating-f64-to-u64 .ensures)

@@ -27,9 +27,9 @@ module _ (c : tie.After-height-in-waves) where
       → IsAnswer patternNumber patternValue P.Other 11 (patternOf antenna wave) (patternSettles antenna wave) r
   answered r k = type-answers antenna wave (c .before .leg-in-waves .result) (c .height-in-waves .result) r (is-type (antenna .kop) (search needs) k) (c .before .leg-in-waves .ensures) (c .height-in-waves .ensures)
 
-returns-11 : tie.Need-returns-11
+returns-other : tie.Need-returns-11
 unfolding patternOf
-returns-11 c = let r = c .before .match .rest in
+returns-other c = let r = c .before .match .rest in
     pattern-answers (c .before .before .before .before .before .before .before .before .args .antenna) (c .before .before .before .before .before .before .before .before .args .wave) _ (rw (
       no-type _ 1 (r .0 .0 .0 .0 .0 .0 .0 .0 .0 .1),
       no-type _ 10 (r .0 .0 .0 .0 .0 .0 .0 .0 .1),
@@ -64,4 +64,4 @@ pattern-of-spec =
     (λ c. answered (c .before .before) _ (c .before .match .keys8) (c .dipole-of2 .ensures))
     (λ c. answered (c .before .before) _ (c .before .match .keys9) (c .monopole-of .ensures))
     (λ c. answered (c .before .before) _ (c .before .match .keys10) (c .monopole-of2 .ensures))
-    returns-11)
+    returns-other)
