@@ -7,3 +7,4 @@ pub mod Theorem
 pub mod Consequences
 pub mod Loops
 pub mod Calls
+pub mod None

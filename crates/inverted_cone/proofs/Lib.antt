@@ -1,1 +1,2 @@
 pub mod ConeTable
+pub mod None

@@ -6,7 +6,7 @@ use lib.Dec.{eqb}
 use lib.ListN.{getD, drop, replicate}
 use lib.Ieee.{Float, nan, neg, le}
 use Rattle.single.specs.Single.{_⊞_, _⊟_, _⊠_, _⊘_, num, whole}
-use Rattle.limits.specs.Refusals.{firstRefusal}
+use Rattle.limits.specs.Refusals.{Test, firstRefusal}
 use Rattle.limits.specs.Tests.{anyOutside, numbersTest}
 use Rattle.inverted_cone.specs.declared.cone.ConeGain.{ConeGain}
 use Rattle.inverted_cone.specs.declared.cone.ConeGain.the-variants.{Accepted, Refused}
@@ -82,8 +82,11 @@ unfoldable pub coneGainValue : ConeGain → Float
 coneGainValue (Accepted v) = v
 coneGainValue (Refused n) = num 0 1
 
+abbrev pub coneTests : Float → Float → List Test
+coneTests freq elev = numbersTest (anyOutside (freq ∷ elev ∷ [])) ∷ []
+
 unfoldable pub invconNumber : Float → Float → ℕ
-invconNumber freq elev = firstRefusal (numbersTest (anyOutside (freq ∷ elev ∷ [])) ∷ [])
+invconNumber freq elev = firstRefusal (coneTests freq elev)
 
 unfoldable pub invconValue : Float → Float → Float
 invconValue freq elev = cond (eqb (invconNumber freq elev) 0) (coneValue freq elev) (num 0 1)

@@ -41,4 +41,4 @@ answers call height r e =
 pub zero-none-of-call : (call : GainCall) (height : Float) → (callRefusal call height ≡ 0) ↔ (anyHolds (callTests call height) ≡ false)
 unfolding callRefusal
 zero-none-of-call call height =
-    zero-none (callTests call height) (omega arith, (omega arith, (omega arith, (omega arith, (omega arith, (omega arith, tt))))))
+    zero-none (callTests call height) (λ h. omega arith, (λ h. omega arith, (λ h. omega arith, (λ h. omega arith, (λ h. omega arith, (λ h. omega arith, tt))))))

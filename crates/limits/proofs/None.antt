@@ -12,16 +12,16 @@ abbrev pub anyHolds : List Test → Bool
 anyHolds [] = false
 anyHolds (t ∷ ts) = t .holds || anyHolds ts
 
--- no test has the number 0
+-- no test that holds has the number 0
 abbrev pub Numbered : List Test → Type 0
 Numbered [] = Unit {0}
-Numbered (t ∷ ts) = (0 < t .number) × Numbered ts
+Numbered (t ∷ ts) = (t .holds ≡ true → 0 < t .number) × Numbered ts
 
 pub zero-none : (ts : List Test) → Numbered ts → (firstRefusal ts ≡ 0) ↔ (anyHolds ts ≡ false)
 unfolding firstRefusal
 zero-none [] n = (λ e. refl, λ e. refl)
-zero-none (t ∷ ts) n = go (t .holds) (zero-none ts (n .1))
+zero-none (t ∷ ts) n = go (t .holds) (n .0) (zero-none ts (n .1))
   where
-    go : (b : Bool) → (firstRefusal ts ≡ 0) ↔ (anyHolds ts ≡ false) → (cond b (t .number) (firstRefusal ts) ≡ 0) ↔ ((b || anyHolds ts) ≡ false)
-    go true rest = (λ e. absurd (omega (arith, e, n .0)), λ e. absurd (subst T e tt))
-    go false rest = rest
+    go : (b : Bool) → (b ≡ true → 0 < t .number) → (firstRefusal ts ≡ 0) ↔ (anyHolds ts ≡ false) → (cond b (t .number) (firstRefusal ts) ≡ 0) ↔ ((b || anyHolds ts) ≡ false)
+    go true some rest = (λ e. absurd (omega (arith, e, some refl)), λ e. absurd (subst T e tt))
+    go false some rest = rest
