@@ -37,6 +37,11 @@ gainLookupNumber t fmc delta = lookupRefusal t fmc delta
 unfoldable pub gainLookupValues : List Float → Float → Float → GainEfficiency
 gainLookupValues t fmc delta = cond (eqb (lookupRefusal t fmc delta) 0) (blendedAt (placeOf fmc delta) (rowOf t)) zeros
 
+-- the whole answer
+unfoldable pub gainLookupOf : List Float → Float → Float → Lookup
+gainLookupOf t fmc delta =
+    let refusal = lookupRefusal t fmc delta in cond (eqb refusal 0) (Accepted (blendedAt (placeOf fmc delta) (rowOf t))) (Refused refusal)
+
 abbrev pub cardLookupNumber : ℤ → ℤ → ℕ → List Float → Float → Float → ℕ
 cardLookupNumber first last verdict t fmc delta = cardRefusal first last verdict t fmc delta
 
@@ -44,3 +49,9 @@ cardLookupNumber first last verdict t fmc delta = cardRefusal first last verdict
 unfoldable pub cardLookupValues : ℤ → ℤ → ℕ → List Float → Float → Float → GainEfficiency
 cardLookupValues first last verdict t fmc delta =
     cond (eqb (cardRefusal first last verdict t fmc delta) 0 && eqb verdict 0) (blendedAt (placeOf fmc delta) (filledRow first last t)) zeros
+
+-- the whole answer
+unfoldable pub cardLookupOf : ℤ → ℤ → ℕ → List Float → Float → Float → Lookup
+cardLookupOf first last verdict t fmc delta =
+    let refusal = cardRefusal first last verdict t fmc delta in
+    cond (eqb refusal 0) (Accepted (cond (eqb verdict 0) (blendedAt (placeOf fmc delta) (filledRow first last t)) zeros)) (Refused refusal)

@@ -7,7 +7,7 @@ ghost use Rattle.encoding.specs.Bytes.{floatsOf};
 ghost use Rattle.antenna.specs.ByteTables.{byteCount, tableOf};
 ghost use Rattle.lookup_refusals.specs.LookupRefusals.{lookupRefusal};
 ghost use Rattle.antenna.specs.Lookups.{lookupNumber, lookupValues};
-ghost use Rattle.antenna.specs.Lookups.{gainLookupNumber, gainLookupValues};
+ghost use Rattle.antenna.specs.Lookups.{gainLookupNumber, gainLookupOf, gainLookupValues};
 ghost use Rattle.antenna.specs.Rows.{InTable, rowOf};
 use crate::lookups::Lookup;
 use crate::places::locate;
@@ -55,6 +55,7 @@ fn bytes_refusal(table: &[u8], fmc: f32, delta: f32) -> u32
 }
 
 pub fn gain_lookup_in_bytes(table: &[u8], fmc: f32, delta: f32) -> Lookup
+    ensures { λ r. ⌜ r ≡ gainLookupOf (tableOf (now (table .entry))) fmc delta ⌝ }
     ensures { λ r. ⌜ lookupNumber r ≡ gainLookupNumber (tableOf (now (table .entry))) fmc delta ⌝ }
     ensures { λ r. ⌜ lookupValues r ≡ gainLookupValues (tableOf (now (table .entry))) fmc delta ⌝ }
 {

@@ -1,7 +1,7 @@
 // `gain_lookup`, and the lookup of a card's table.
 ghost use mathlib.Core.Path.{_≡_};
 ghost use Rattle.antenna.specs.Lookups.{lookupNumber, lookupValues};
-ghost use Rattle.antenna.specs.Lookups.{gainLookupNumber, gainLookupValues, cardLookupNumber, cardLookupValues};
+ghost use Rattle.antenna.specs.Lookups.{gainLookupNumber, gainLookupOf, gainLookupValues, cardLookupNumber, cardLookupOf, cardLookupValues};
 use crate::places::locate;
 use crate::rows::GainEfficiency;
 use crate::rows::blend;
@@ -17,6 +17,7 @@ pub enum Lookup {
 
 // At fmc MHz and an elevation of delta radians.
 pub fn gain_lookup(table: &[f32], fmc: f32, delta: f32) -> Lookup
+    ensures { λ r. ⌜ r ≡ gainLookupOf (now (table .entry)) fmc delta ⌝ }
     ensures { λ r. ⌜ lookupNumber r ≡ gainLookupNumber (now (table .entry)) fmc delta ⌝ }
     ensures { λ r. ⌜ lookupValues r ≡ gainLookupValues (now (table .entry)) fmc delta ⌝ }
 {
@@ -40,6 +41,7 @@ pub fn card_lookup(
     fmc: f32,
     delta: f32,
 ) -> Lookup
+    ensures { λ r. ⌜ r ≡ cardLookupOf first last verdict (now (table .entry)) fmc delta ⌝ }
     ensures { λ r. ⌜ lookupNumber r ≡ cardLookupNumber first last verdict (now (table .entry)) fmc delta ⌝ }
     ensures { λ r. ⌜ lookupValues r ≡ cardLookupValues first last verdict (now (table .entry)) fmc delta ⌝ }
 {

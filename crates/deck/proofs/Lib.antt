@@ -7,4 +7,5 @@ pub mod Laws
 pub mod BeforeWork
 pub mod Fills
 pub mod CardRows
+pub mod Answers
 pub mod Whole

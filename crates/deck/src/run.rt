@@ -2,7 +2,7 @@
 ghost use mathlib.Core.Path.{_≡_};
 ghost use Rattle.independence.specs.Contracts.{refusalBeforeWork, malformedRefusal, EntryDone};
 ghost use Rattle.deck.specs.Antenna.{theAntenna};
-ghost use Rattle.deck.specs.Run.{countLimit, stateOf, cardEntry, malformedEntry};
+ghost use Rattle.deck.specs.Run.{countLimit, stateOf, cardEntry, malformedEntry, answerOn};
 use crate::fields::Fields;
 use crate::fields::card_refusal;
 use crate::filling::fill_card;
@@ -43,6 +43,7 @@ fn malformed_refusal(deck: Deck, table: &[f32]) -> u32
 // The table is cleared, then filled; a refused one is cleared again, and the height found is kept.
 pub fn run_card(deck: Deck, fields: Fields, table: &mut [f32]) -> CardAnswer
     ensures { λ r. ⌜ EntryDone theAntenna countLimit (stateOf deck) (cardEntry fields (now (table .entry))) (now (table .exit)) (r .verdict) (stateOf (r .deck)) ⌝ }
+    ensures { λ r. ⌜ r ≡ answerOn deck (cardEntry fields (now (table .entry))) ⌝ }
 {
     let verdict = refusal_before_work(deck, fields, table);
     table::clear_refused(table);
@@ -72,6 +73,7 @@ pub fn run_card(deck: Deck, fields: Fields, table: &mut [f32]) -> CardAnswer
 
 pub fn run_malformed(deck: Deck, table: &mut [f32]) -> CardAnswer
     ensures { λ r. ⌜ EntryDone theAntenna countLimit (stateOf deck) (malformedEntry (now (table .entry))) (now (table .exit)) (r .verdict) (stateOf (r .deck)) ⌝ }
+    ensures { λ r. ⌜ r ≡ answerOn deck (malformedEntry (now (table .entry))) ⌝ }
 {
     let verdict = malformed_refusal(deck, table);
     table::clear_refused(table);

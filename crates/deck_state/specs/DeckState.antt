@@ -15,6 +15,10 @@ countLimit = 1000000
 abbrev pub stateOf : D.Deck → Deck
 stateOf d = record { height = d .height; accepted = d .accepted; refused = d .refused }
 
+-- and back: the two hold the same
+abbrev pub deckOf : Deck → D.Deck
+deckOf d = record { height = d .height; accepted = d .accepted; refused = d .refused }
+
 abbrev pub isFull : Deck → Bool
 isFull d = leb countLimit (d .accepted + d .refused)
 

@@ -1,7 +1,7 @@
 // A deck's carried height and counts: document 01 section 8.
 ghost use mathlib.Core.Path.{_≡_};
 ghost use Rattle.independence.specs.Deck.{fresh};
-ghost use Rattle.deck_state.specs.DeckState.{stateOf, isFull, deckRefusal, refusedWithin};
+ghost use Rattle.deck_state.specs.DeckState.{deckOf, stateOf, isFull, deckRefusal, refusedWithin};
 
 // From here on a card is refused by 10.
 const COUNT_LIMIT: u64 = 1_000_000;
@@ -14,7 +14,7 @@ pub struct Deck {
 }
 
 pub fn fresh() -> Deck
-    ensures { λ r. ⌜ stateOf r ≡ fresh ⌝ }
+    ensures { λ r. ⌜ r ≡ deckOf fresh ⌝ }
 {
     Deck {
         height: 0.0,
@@ -47,7 +47,7 @@ pub fn deck_refusal(deck: Deck, table: &[f32]) -> u32
 
 // 10 raises no count, and a full deck's counts stay.
 pub fn refused_deck(deck: Deck, verdict: u32) -> Deck
-    ensures { λ r. ⌜ stateOf r ≡ refusedWithin (stateOf deck) verdict ⌝ }
+    ensures { λ r. ⌜ r ≡ deckOf (refusedWithin (stateOf deck) verdict) ⌝ }
 {
     if is_full(deck) {
         return deck;

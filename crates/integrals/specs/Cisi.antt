@@ -60,3 +60,11 @@ cisiNumber x = cond (inLimits x) (settledNumber (integralsSettle x)) 6
 
 unfoldable pub cisiValues : Float → Integrals
 cisiValues x = cond (inLimits x) (computedValues (integralsOf x)) zeros
+
+-- the whole answer
+abbrev pub publicOf : Computed → Answer
+publicOf (Core.Settled v n) = Public.Accepted v
+publicOf Core.Unsettled = Public.Unsettled
+
+unfoldable pub cisiOf : Float → Answer
+cisiOf x = cond (inLimits x) (publicOf (integralsOf x)) Public.OutsideLimits

@@ -1,7 +1,7 @@
 // `cisi`, over the series and the rational form.
 ghost use mathlib.Core.Path.{_≡_};
 ghost use Rattle.integrals.specs.Cisi.{integralsOf, integralsSettle, computedNumber, computedValues, zeros};
-ghost use Rattle.integrals.specs.Cisi.{answerNumber, answerValues, cisiNumber, cisiValues};
+ghost use Rattle.integrals.specs.Cisi.{answerNumber, answerValues, cisiNumber, cisiOf, cisiValues};
 ghost use Rattle.single.specs.Answer.{IsAnswer};
 use crate::rational::Integrals;
 use crate::rational::rational;
@@ -52,7 +52,7 @@ pub fn integrals_of(x: f32) -> Computed
 }
 
 pub fn cisi(x: f32) -> Answer
-    ensures { λ r. ⌜ (answerNumber r ≡ cisiNumber x) × (answerValues r ≡ cisiValues x) ⌝ }
+    ensures { λ r. ⌜ (r ≡ cisiOf x) × (answerNumber r ≡ cisiNumber x) × (answerValues r ≡ cisiValues x) ⌝ }
 {
     if 0.0 <= x {
         if x <= 1048576.0 {

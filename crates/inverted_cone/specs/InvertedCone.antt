@@ -88,5 +88,10 @@ coneTests freq elev = numbersTest (anyOutside (freq ∷ elev ∷ [])) ∷ []
 unfoldable pub invconNumber : Float → Float → ℕ
 invconNumber freq elev = firstRefusal (coneTests freq elev)
 
+-- the whole answer
+unfoldable pub invconOf : Float → Float → ConeGain
+invconOf freq elev =
+    let refusal = invconNumber freq elev in cond (eqb refusal 0) (Accepted (coneValue freq elev)) (Refused refusal)
+
 unfoldable pub invconValue : Float → Float → Float
 invconValue freq elev = cond (eqb (invconNumber freq elev) 0) (coneValue freq elev) (num 0 1)

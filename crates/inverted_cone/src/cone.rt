@@ -4,7 +4,7 @@ ghost use Prim.Native.Nat.{_<_, _≤_};
 ghost use lib.ListN.{length};
 ghost use Rattle.inverted_cone.specs.InvertedCone.{weightOf, interpOf, upperOf, coneValue};
 ghost use Rattle.inverted_cone.specs.Corners.{cornersIn, cornersAt};
-ghost use Rattle.inverted_cone.specs.InvertedCone.{coneGainNumber, coneGainValue, invconNumber, invconValue};
+ghost use Rattle.inverted_cone.specs.InvertedCone.{coneGainNumber, coneGainValue, invconNumber, invconOf, invconValue};
 use crate::cone_table::CONE;
 use crate::cone_table::CONE_ELEVS;
 use crate::cone_table::CONE_FREQS;
@@ -103,6 +103,7 @@ fn cone_value(freq: f32, elev_deg: f32) -> f32
 
 // At freq MHz and an elevation of elev_deg degrees.
 pub fn invcon(freq: f32, elev_deg: f32) -> ConeGain
+    ensures { λ r. ⌜ r ≡ invconOf freq «elev_deg» ⌝ }
     ensures { λ r. ⌜ coneGainNumber r ≡ invconNumber freq «elev_deg» ⌝ }
     ensures { λ r. ⌜ coneGainValue r ≡ invconValue freq «elev_deg» ⌝ }
 {

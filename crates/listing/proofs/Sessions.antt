@@ -2,14 +2,15 @@
 use mathlib.Core.Path.{_≡_, refl, sym, ap, subst, _∙_}
 use mathlib.Core.Bool.{Bool, true, false, not, cond}
 use mathlib.Core.List.{List, [], _∷_, _++_}
-use Prim.Native.Nat.{ℕ, _+_, _≤_, _<_}
+use Prim.Native.Nat.{ℕ, _+_, _-_, _≤_, _<_}
 use native.Mathlib.Omega.{arith}
 use borrow.Author.Tests.{ltb-true, ltb-false}
 use lib.Dec.{ltb}
 use lib.Ieee.{Float}
-use lib.ListN.{length, take, drop, take-append-drop}
+use lib.ListN.{length, take, drop, length-drop, take-append-drop}
 use lib.Seq.{length-take-le, take-all}
 use Rattle.listing.specs.declared.session.Session as S
+use Rattle.listing.specs.declared.session.Stepped as D
 use Rattle.listing.specs.declared.gathering.Gathered as G
 use Rattle.listing.specs.declared.card.Listed as C
 use Rattle.listing.specs.Appended.{Appended, overwritten}
@@ -17,7 +18,7 @@ use Rattle.listing.specs.Text.{countsText}
 use Rattle.listing.specs.Session.{State, stateIn, heldIn, Gathered, gathered, lineText, afterLine, stepBy, stepOf, lastText, endBy, counts, finishText, finishTable, isReady}
 use Rattle.listing.specs.Gathering.{GatherDone}
 use Rattle.listing.specs.Card.{LineListed}
-use Rattle.listing.specs.Steps.{StepDone, FinishDone}
+use Rattle.listing.specs.Steps.{StepDone, FinishDone, steppedOf}
 use Rattle.listing.proofs.Buffer.{unchanged, nothing, same, then}
 use Rattle.listing.proofs.Progress.{parts-by}
 use Rattle.listing.proofs.Ready.{true-of, false-of, tested}
@@ -46,11 +47,21 @@ module _ (s : S.Session) (line : List ℕ) (table : List Float) (out : List ℕ)
   not-now : not b ≡ true → isReady line table out at ≡ false
   not-now e = sym is ∙ false-of b e
 
+  -- the parts of a step's answer are all of it
+  answer-is : (piece line′ : List ℕ) (table′ : List Float) (r : D.Stepped) → let step = stepOf (isReady line table out at) (stateIn s line table) piece in
+      stateIn (r .session) line′ table′ ≡ step .state → r .session .held ≡ cond (isReady line table out at) (length (step .state .held)) (s .held)
+      → drop (r .used) piece ≡ step .rest → r .used ≤ length piece → r .at ≡ at + length (step .text) → r ≡ steppedOf s line piece table out at
+  answer-is piece line′ table′ r i h d w n =
+      let step = stepOf (isReady line table out at) (stateIn s line table) piece in
+      let used : r .used ≡ length piece - length (step .rest) = omega (arith, sym (length-drop (r .used) piece) ∙ ap length d) in
+      rw (← ap (λ (t : State). t .deck) i, ← ap (λ (t : State). t .listed) i, ← h, ← used, ← n)
+
   pub step-idle : (piece : List ℕ) → not b ≡ true → StepDone s line piece table out at line table out (record { session = s; used = 0; at = at })
   unfolding stepOf
   step-idle piece e =
       let n = not-now e in
       record {
+        answer = answer-is piece line table (record { session = s; used = 0; at = at }) (rw n refl) (rw n refl) (rw n refl) (omega arith) (rw n (let z : at ≡ at + 0 = omega arith in z));
         state = rw n refl;
         held = rw n refl;
         buffer = rw n (unchanged line 0);
@@ -89,6 +100,8 @@ module _ (s : S.Session) (line : List ℕ) (table : List Float) (out : List ℕ)
         let r = ready-now e in
         let k = parts-by (stateIn s line table) found in
         record {
+          answer = answer-is piece line′ table′ (record { session = c .session; used = g .used; at = c .at }) (rw (r, gathered-is) i) (rw (r, gathered-is) h)
+              (rw (r, gathered-is) (sym (k .1))) (x .within) (rw (r, gathered-is) (y .end));
           state = rw (r, gathered-is) i;
           held = rw (r, gathered-is) h;
           buffer = rw (r, gathered-is) (buffer-is ∙ ap (overwritten line 0) (sym (k .0)));

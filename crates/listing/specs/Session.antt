@@ -6,9 +6,9 @@ use lib.Dec.{ltb, leb, eqb}
 use lib.Ieee.{Float}
 use lib.ListN.{length, take}
 use Rattle.table.specs.Table.{isTable}
-use Rattle.independence.specs.Deck.{Deck, outcomeOn, deckAfter}
+use Rattle.independence.specs.Deck.{Deck, fresh, outcomeOn, deckAfter}
 use Rattle.deck.specs.Antenna.{theAntenna}
-use Rattle.deck.specs.Run.{countLimit, stateOf}
+use Rattle.deck.specs.Run.{countLimit, deckOf, stateOf}
 use Rattle.listing.specs.declared.session.Session as S
 use Rattle.listing.specs.Sizes.{mostHeld, mostText, mostListed}
 use Rattle.listing.specs.Lines.{linesOf}
@@ -25,6 +25,10 @@ pub record State : Type 0 where
 -- the state of the code: the first bytes of its buffer are held
 abbrev pub stateIn : S.Session → List ℕ → List Float → State
 stateIn s line table = record { deck = stateOf (s .deck); listed = s .listed; held = take (s .held) line; table = table }
+
+-- before the first byte: a fresh deck, nothing listed, nothing held
+abbrev pub startOf : S.Session
+startOf = record { deck = deckOf fresh; listed = 0; held = 0 }
 
 -- a session that was made otherwise may say that it holds more than the buffer
 unfoldable pub heldIn : ℕ → ℕ

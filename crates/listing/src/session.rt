@@ -1,8 +1,6 @@
 // The listing of an input that comes in pieces of any size.
 ghost use mathlib.Core.Path.{_≡_};
-ghost use Rattle.independence.specs.Deck.{fresh};
-ghost use Rattle.deck.specs.Run.{stateOf};
-ghost use Rattle.listing.specs.Session.{heldIn, isReady};
+ghost use Rattle.listing.specs.Session.{heldIn, isReady, startOf};
 ghost use Rattle.listing.specs.Steps.{StepDone, FinishDone};
 use crate::card::list_line;
 use crate::gathering::MOST_HELD;
@@ -28,7 +26,7 @@ pub struct Stepped {
 }
 
 pub fn start() -> Session
-    ensures { λ r. ⌜ (stateOf (r .deck) ≡ fresh) × (r .listed ≡ 0) × (r .held ≡ 0) ⌝ }
+    ensures { λ r. ⌜ r ≡ startOf ⌝ }
 {
     Session {
         deck: deck::fresh(),

@@ -6,6 +6,7 @@ use lib.IntN.{ℤ, pos, negsuc}
 use lib.Ieee.{Float, nan, binary32, neg, lt, le, ofInt}
 use Rattle.single.specs.Single.{_⊞_, _⊟_, _⊠_, _⊘_, num}
 use Rattle.basic.specs.Basic.{cutToward}
+use Rattle.trigonometric.specs.declared.trigonometric.SineCosine.{SineCosine}
 
 abbrev pub twoOverPi : Float
 twoOverPi = num 63661975 100000000
@@ -92,6 +93,10 @@ sine x = ofReduction sineAt x
 
 unfoldable pub cosine : Float → Float
 cosine x = ofReduction cosineAt x
+
+-- both at once
+abbrev pub sineCosineOf : Float → SineCosine
+sineCosineOf x = record { sine = sine x; cosine = cosine x }
 
 unfoldable pub tangent : Float → Float
 tangent x = sine x ⊘ cosine x

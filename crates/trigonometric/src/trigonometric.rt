@@ -7,7 +7,7 @@ ghost use Rattle.single.proofs.Magnitude.{Mag};
 ghost use Rattle.basic.specs.WholePart.{wholePart};
 ghost use Rattle.trigonometric.specs.Trigonometric.{inRange, turnsArgument, turns, rest, reduced, quadrantOf};
 ghost use Rattle.trigonometric.specs.Trigonometric.{sinePart, cosinePart, sineAt, cosineAt};
-ghost use Rattle.trigonometric.specs.Trigonometric.{sine, cosine, tangent};
+ghost use Rattle.trigonometric.specs.Trigonometric.{sine, cosine, sineCosineOf, tangent};
 ghost use Rattle.trigonometric.specs.Turns.{turnsFloat, quadrantBy, sineAhead};
 
 pub struct SineCosine {
@@ -156,7 +156,7 @@ pub fn cos(x: f32) -> f32
 
 // Both, from one reduction.
 pub fn sin_cos(x: f32) -> SineCosine
-    ensures { λ r. ⌜ (r .sine ≡ sine x) × (r .cosine ≡ cosine x) ⌝ }
+    ensures { λ r. ⌜ (r .sine ≡ sine x) × (r .cosine ≡ cosine x) × (r ≡ sineCosineOf x) ⌝ }
 {
     if in_range(x) {
         let d = reduce(x);

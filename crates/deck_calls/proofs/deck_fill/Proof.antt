@@ -37,7 +37,7 @@ returns-2 c =
     let model : m .result ≡ modelOf (a .model) = m .ensures ∙ ap modelOf (toZ-ofZ w32 (a .model) (search needs)) in
     let given : Fields = record { kop = toZ w32 (ofZ w32 (a .kop)); first = toZ w32 (ofZ w32 (a .first)); last = toZ w32 (ofZ w32 (a .last)); toaz = a .toaz; slots = s .result; model = m .result } in
     let same : given ≡ fieldsOf (a .kop) (a .first) (a .last) (a .toaz) (a .slots .now) (a .model) = rw (toZ-ofZ w32 (a .kop) (search needs), toZ-ofZ w32 (a .first) (search needs), toZ-ofZ w32 (a .last) (search needs), ← s .ensures, ← model) in
-    accepts given (fieldsOf (a .kop) (a .first) (a .last) (a .toaz) (a .slots .now) (a .model)) (a .height) (a .table .now) _ _ _ same n (c .before .before .run-card .ensures)
+    accepts given (fieldsOf (a .kop) (a .first) (a .last) (a .toaz) (a .slots .now) (a .model)) (a .height) (a .table .now) _ _ _ same n (c .before .before .run-card .ensures .0)
 
 pub deck-fill-spec : {M : Type 1} → statement M
 deck-fill-spec =

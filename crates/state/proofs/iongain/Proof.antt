@@ -127,7 +127,7 @@ module _ {M : Type 1} (𝓤 : URA M) (H : Heap 𝓤) (A : Atoms 𝓤) (W : Given
   exits g u is r gk e e′ =
       qed W (‵ (fobs γ (T.the-row .coded .code (h′ r))) ∷ ‵ (fbor κ (Body (mem T.the-row) b o γ)) ∷ ‵ (flft κ q) ∷ []) ∵
       suffices ! _ (ends-at 𝓤 H A f.ended stayed (f.clauses 𝓤 H A at-mem run) W (((κ, tt), (q, tt), tt, x, at), tt) u g (h′ r, (tt, tt)) (tt, (tt, tt))) $
-      says ! (e .0, e .1, e .2, e .3, e′ ∙ e .4) $ nothing ! $ move ! (3 ∷ 0 ∷ []) $ join ! $
+      says ! (e .0, e .1, e .2, e .3, ap h′ (e′ ∙ e .4)) $ nothing ! $ move ! (3 ∷ 0 ∷ []) $ join ! $
       frame ! $ feqI ! (List Val) (vptr b o ∷ []) (vptr b o ∷ []) refl $ fjoin3 ! $ nothing ! $ owned ! K.the-row (Is K.the-row) ((LL.makes K.the-type K′.the-plain) 𝓤 H A) k _ gk $ fjoin ! $ move ! (1 ∷ 0 ∷ []) $ fjoin ! $
       owned ! G.the-row (Is G.the-row) ((EL.makes G.the-type G′.the-plain) 𝓤 H A) g _ is $ move ! (1 ∷ 0 ∷ []) $ done !
 

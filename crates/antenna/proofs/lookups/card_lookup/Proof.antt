@@ -4,7 +4,7 @@ use mir.Syntax.{w32}
 use mir.Val.{toZ, ofZ}
 use mir.ValLaws.{toZ-ofZ}
 use borrow.Author.Tests.{eq-eqb, ne-eqb}
-use Rattle.antenna.specs.Lookups.{lookupNumber, lookupValues, cardLookupNumber, cardLookupValues}
+use Rattle.antenna.specs.Lookups.{lookupNumber, lookupValues, cardLookupNumber, cardLookupOf, cardLookupValues}
 use Rattle.lookup_refusals.proofs.Accepted.{card-accepted}
 use Rattle.antenna.proofs.Bounds.{low-in, high-in}
 use borrow.Author.Needs.{needs}
@@ -19,14 +19,16 @@ number : (c : tie.After-card-refusal) → let a = c .before .before .args in c .
 number c = let r = signed (c .before .before) in rw (r .0, r .1) at (c .card-refusal .ensures)
 
 returns : tie.Need-returns
-unfolding lookupNumber lookupValues cardLookupValues
-returns c = let e = number (c .before) in (e, rw (← e, ne-eqb _ 0 (c .if1 .taken)))
+unfolding lookupNumber lookupValues cardLookupOf cardLookupValues
+returns c = let e = number (c .before) in (rw (← e, ne-eqb _ 0 (c .if1 .taken)), (e, rw (← e, ne-eqb _ 0 (c .if1 .taken))))
 
 returns-2 : tie.Need-returns-2
-unfolding lookupNumber lookupValues cardLookupValues round ofBits
+unfolding lookupNumber lookupValues cardLookupOf cardLookupValues round ofBits
 returns-2 c =
     let e = number (c .before .before) in
-    (sym (c .before .if1 .left) ∙ e, rw (← e, eq-eqb _ 0 (c .before .if1 .left), ne-eqb _ 0 (c .if2 .taken)))
+    let z = c .before .if1 .left in
+    let v = ne-eqb _ 0 (c .if2 .taken) in
+    (rw (← e, eq-eqb _ 0 z, v), (sym z ∙ e, rw (← e, eq-eqb _ 0 z, v)))
 
 locate-requires : tie.Need-locate-requires
 locate-requires c κs = let a = card-accepted _ _ _ _ _ _ (sym (c .before .before .card-refusal .ensures) ∙ c .before .if1 .left) in (a .1, a .2)
@@ -38,14 +40,17 @@ card-row-requires-2 : tie.Need-card-row-requires-2
 card-row-requires-2 c κs = (card-accepted _ _ _ _ _ _ (sym (c .before .before .before .before .card-refusal .ensures) ∙ c .before .before .before .if1 .left) .0, rw (c .before .locate .ensures) (high-in _ _))
 
 returns-3 : tie.Need-returns-3
-unfolding lookupNumber lookupValues cardLookupValues
+unfolding lookupNumber lookupValues cardLookupOf cardLookupValues
 returns-3 c =
     let e = number (c .before .before .before .before .before .before) in
     let r = signed (c .before .before .before .before .before .before .before .before) in
     let low = rw (r .0, r .1) at (c .before .before .card-row .ensures) in
     let high = rw (r .0, r .1) at (c .before .card-row2 .ensures) in
     let z = c .before .before .before .before .before .if1 .left in
-    (sym z ∙ e, rw (← e, eq-eqb _ 0 z, eq-eqb _ 0 (c .before .before .before .before .if2 .left), ← c .before .before .before .locate .ensures, ← low, ← high, ← c .blend .ensures))
+    let v = eq-eqb _ 0 (c .before .before .before .before .if2 .left) in
+    let at = c .before .before .before .locate .ensures in
+    let found = c .blend .ensures in
+    (rw (← e, eq-eqb _ 0 z, v, ← at, ← low, ← high, ← found), (sym z ∙ e, rw (← e, eq-eqb _ 0 z, v, ← at, ← low, ← high, ← found)))
 
 pub card-lookup-spec : {M : Type 1} → statement M
 card-lookup-spec =

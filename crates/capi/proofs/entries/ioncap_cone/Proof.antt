@@ -13,8 +13,8 @@ ioncap-cone-spec =
     (λ c κs. search needs) (λ c. search needs) (λ c κs. search needs) (λ c. search needs)
     (λ c. let d = c .before .before .before .before .before .before .before in
     let case = c .before .before .before .before .before .gain .given .1 in
-    cone-written _ _ _ (d .before .if1 .left) (d .invcon .result) (d .invcon .ensures) _ _ (rw case) (rw case (c .before .before .write-answer .ensures)))
+    cone-written _ _ _ (d .before .if1 .left) (d .invcon .result) (d .invcon .ensures .1) _ _ (rw case) (rw case (c .before .before .write-answer .ensures)))
     (λ c. search needs)
     (λ c. let d = c .before .before .before .before .before .before .before in
     let case = c .before .before .before .before .before .number .given .1 in
-    cone-written _ _ _ (d .before .if1 .left) (d .invcon .result) (d .invcon .ensures) _ _ (rw case) (rw case (c .before .before .write-answer2 .ensures))))
+    cone-written _ _ _ (d .before .if1 .left) (d .invcon .result) (d .invcon .ensures .1) _ _ (rw case) (rw case (c .before .before .write-answer2 .ensures))))

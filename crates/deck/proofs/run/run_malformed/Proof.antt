@@ -1,15 +1,16 @@
-use mathlib.Core.Path.{_∙_}
+use mathlib.Core.Path.{ap, _∙_}
 use Rattle.independence.proofs.Calls.{room-malformed, entry-malformed}
 use Rattle.deck_state.proofs.Counts.{within}
 use Rattle.deck.specs.Antenna.{theAntenna}
-use Rattle.deck.specs.Run.{countLimit}
+use Rattle.deck.specs.Run.{countLimit, stateOf}
+use Rattle.deck.proofs.Answers.{answered}
 use Rattle.deck.proofs.Laws.{theLaws}
 use borrow.Author.Needs.{needs}
 use Rattle.deck.proofs.run.run_malformed.Statement.{statement}
 use Rattle.deck.proofs.run.run_malformed.Tie as tie
 
 returns : tie.Need-returns
-returns c = entry-malformed theAntenna theLaws countLimit _ _ _ _ _ (c .before .before .before .before .before .malformed-refusal .ensures) (c .before .before .before .clear-refused .ensures) (c .refused-deck .ensures ∙ within _ _ (λ ne. room-malformed theAntenna theLaws countLimit _ _ _ (c .before .before .before .before .before .malformed-refusal .ensures) ne))
+returns c = answered _ _ _ _ (entry-malformed theAntenna theLaws countLimit _ _ _ _ _ (c .before .before .before .before .before .malformed-refusal .ensures) (c .before .before .before .clear-refused .ensures) (ap stateOf (c .refused-deck .ensures) ∙ within _ _ (λ ne. room-malformed theAntenna theLaws countLimit _ _ _ (c .before .before .before .before .before .malformed-refusal .ensures) ne)))
 
 pub run-malformed-spec : {M : Type 1} → statement M
 run-malformed-spec =
