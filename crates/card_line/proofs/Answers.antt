@@ -8,9 +8,9 @@ use lib.Dec.{eqb, lit≤}
 use lib.IntN.{ℤ}
 use lib.ListN.{length, getD}
 use lib.Ieee.{Float, nan}
-use Rattle.output.specs.declared.reading.Integer.the-variants.{Number, Malformed}
-use Rattle.output.specs.Integer.{integerNumber}
-use Rattle.output.specs.Decimal.{decimalValue}
+use Rattle.field_reading.specs.declared.reading.Integer.the-variants.{Number, Malformed}
+use Rattle.field_reading.specs.Integer.{integerNumber}
+use Rattle.field_reading.specs.Decimal.{decimalValue}
 use Rattle.deck.specs.declared.fields.Fields.{Fields}
 use Rattle.card_line.specs.declared.line.Line.{Line}
 use Rattle.card_line.specs.Line.{integerAt, decimalAt, integersRead, fieldsOf, wellFormed, malformedLine, wellFormedLine, lineOf}

@@ -8,9 +8,9 @@ use lib.ListN.{replicate}
 use lib.Ieee.{round, neg}
 use Rattle.single.specs.Single.{num}
 use Rattle.parameters.specs.declared.model.Model.the-variants.{Compatible}
-use Rattle.output.specs.Digits.{spacesOf, readOn, digitsOf, unspaced, signedOf}
-use Rattle.output.specs.Integer.{integer, integerOf}
-use Rattle.output.specs.Decimal.{tenThousandths, pointed, decimalOf}
+use Rattle.field_reading.specs.Digits.{spacesOf, readOn, digitsOf, unspaced, signedOf}
+use Rattle.field_reading.specs.Integer.{integer, integerOf}
+use Rattle.field_reading.specs.Decimal.{tenThousandths, pointed, decimalOf}
 use Rattle.deck.specs.declared.fields.Fields.{Fields}
 use Rattle.card_line.specs.Line.{integersRead, decimalsRead, fieldsOf, wellFormed, malformedLine, wellFormedLine, lineOf}
 

@@ -10,9 +10,9 @@ use mir.Syntax.{w32, w64}
 use mir.Val.{SFits, toZ, ofZ}
 use mir.ValLaws.{toZ-ofZ}
 use Rattle.single.proofs.Integers.{within}
-use Rattle.output.specs.declared.reading.Integer.the-variants.{Number}
-use Rattle.output.specs.Integer.{integerValue}
-use Rattle.output.proofs.Sizes.{integer-within, integer-fits}
+use Rattle.field_reading.specs.declared.reading.Integer.the-variants.{Number}
+use Rattle.field_reading.specs.Integer.{integerValue}
+use Rattle.field_reading.proofs.Sizes.{integer-within, integer-fits}
 use Rattle.card_line.specs.Line.{columns, integerAt}
 
 pub number-below : (l : List ℕ) (a : ℕ) (z : ℤ) → integerAt l a ≡ Number z → natAbs z < 1000

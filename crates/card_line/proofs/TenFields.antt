@@ -11,9 +11,9 @@ use borrow.Author.Count.{below-more}
 use lib.ListN.{length, take, drop, set, getD, length-set}
 use lib.Seq.{getD-set-same, getD-set-other}
 use lib.Ieee.{Float, nan}
-use Rattle.output.specs.declared.reading.Decimal.{Decimal}
-use Rattle.output.specs.declared.reading.Decimal.the-variants.{Value, Malformed}
-use Rattle.output.specs.Decimal.{decimalOf, decimalValue}
+use Rattle.field_reading.specs.declared.reading.Decimal.{Decimal}
+use Rattle.field_reading.specs.declared.reading.Decimal.the-variants.{Value, Malformed}
+use Rattle.field_reading.specs.Decimal.{decimalOf, decimalValue}
 use Rattle.card_line.specs.Line.{columns, decimalAt, decimalsRead}
 use Rattle.card_line.specs.TenFields.{DecimalsDone}
 

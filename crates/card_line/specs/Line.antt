@@ -8,10 +8,10 @@ use lib.ListN.{length, take, drop}
 use lib.Ieee.{Float}
 use Rattle.single.specs.Single.{num}
 use Rattle.parameters.specs.declared.model.Model.the-variants.{Compatible}
-use Rattle.output.specs.declared.reading.Integer.{Integer}
-use Rattle.output.specs.declared.reading.Decimal.{Decimal}
-use Rattle.output.specs.Integer.{integerOf, integerNumber, integerValue}
-use Rattle.output.specs.Decimal.{decimalOf, decimalNumber, decimalValue}
+use Rattle.field_reading.specs.declared.reading.Integer.{Integer}
+use Rattle.field_reading.specs.declared.reading.Decimal.{Decimal}
+use Rattle.field_reading.specs.Integer.{integerOf, integerNumber, integerValue}
+use Rattle.field_reading.specs.Decimal.{decimalOf, decimalNumber, decimalValue}
 use Rattle.deck.specs.declared.fields.Fields.{Fields}
 use Rattle.card_line.specs.declared.line.Line.{Line}
 

@@ -5,7 +5,7 @@ use mathlib.Core.List.{List}
 use Prim.Native.Nat.{ℕ, _<_}
 use lib.ListN.{getD}
 use lib.Ieee.{Float, nan}
-use Rattle.output.specs.Decimal.{decimalValue}
+use Rattle.field_reading.specs.Decimal.{decimalValue}
 use Rattle.card_line.specs.Line.{decimalAt, decimalsRead}
 
 pub record DecimalsDone (l : List ℕ) (wellFormed : Bool) (values : List Float) : Type 0 where

@@ -5,8 +5,8 @@ ghost use lib.ListN.{length, getD};
 ghost use Rattle.card_line.specs.Line.{fieldsOf, malformedLine, lineOf};
 ghost use Rattle.card_line.specs.TenFields.{DecimalsDone};
 use deck::Fields;
-use output::Decimal;
-use output::Integer;
+use field_reading::Decimal;
+use field_reading::Integer;
 use parameters::Model;
 
 const BYTES: usize = 119;
@@ -32,7 +32,7 @@ fn read_decimals(s: &[u8]) -> Decimals
     while k < 10 {
         let a = 9 + 11 * k;
         let e = a + 11;
-        let Decimal::Value(x) = output::read_decimal(&s[a..e]) else {
+        let Decimal::Value(x) = field_reading::read_decimal(&s[a..e]) else {
             return Decimals {
                 well_formed: false,
                 values,
@@ -98,13 +98,13 @@ pub fn read_line(s: &[u8]) -> Line
     if s.len() != BYTES {
         return malformed();
     }
-    let Integer::Number(kop) = output::read_integer(&s[0..3]) else {
+    let Integer::Number(kop) = field_reading::read_integer(&s[0..3]) else {
         return malformed();
     };
-    let Integer::Number(first) = output::read_integer(&s[3..6]) else {
+    let Integer::Number(first) = field_reading::read_integer(&s[3..6]) else {
         return malformed();
     };
-    let Integer::Number(last) = output::read_integer(&s[6..9]) else {
+    let Integer::Number(last) = field_reading::read_integer(&s[6..9]) else {
         return malformed();
     };
     let Decimals {

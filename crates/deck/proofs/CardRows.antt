@@ -11,7 +11,7 @@ use lib.Ieee.{Float}
 use mir.Syntax.{w32, w64}
 use mir.Val.{Fits, ofZ, toZ}
 use mir.ValLaws.{toZ-ofZ}
-use Rattle.patterns.specs.declared.antenna.Antenna.{Antenna}
+use Rattle.antennas.specs.declared.antenna.Antenna.{Antenna}
 use Rattle.independence.specs.Contracts.{RowDone, CardDone}
 use Rattle.independence.proofs.Loops.{CardInv, card-step, card-stops, card-ends}
 use Rattle.deck.specs.declared.card.Card.{Card}

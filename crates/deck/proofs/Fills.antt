@@ -11,7 +11,7 @@ use lib.Ieee.{Float}
 use Rattle.single.specs.Single.{whole}
 use Rattle.integrals.specs.declared.entry.Turns.{Turns}
 use Rattle.reflection.specs.declared.angles.Elevation.{Elevation}
-use Rattle.patterns.specs.declared.antenna.Antenna.{Antenna}
+use Rattle.antennas.specs.declared.antenna.Antenna.{Antenna}
 use Rattle.rows.specs.Row.{rowOf}
 use Rattle.rows.specs.declared.row.Row.{Row}
 use Rattle.rows.specs.declared.row.RowAnswer.the-variants as R

@@ -3,8 +3,8 @@ use Prim.Native.Nat.{ℕ}
 use lib.Ieee.{Float}
 use Rattle.single.specs.Single.{num, whole}
 use Rattle.parameters.specs.Length.{lengthOf, heightSlotOf}
-use Rattle.patterns.specs.Antenna.{antennaWith}
-use Rattle.patterns.specs.declared.antenna.Antenna.{Antenna}
+use Rattle.antennas.specs.Antenna.{antennaWith}
+use Rattle.antennas.specs.declared.antenna.Antenna.{Antenna}
 use Rattle.gain_core.specs.Core.{workOf, workNumber, workGain, workEfficiency, workHeight}
 use Rattle.gain_core.specs.declared.core.Worked.{Worked}
 use Rattle.independence.specs.Antenna.{Answer}

@@ -9,7 +9,7 @@ use lib.Ieee.{Float}
 use Rattle.reflection.specs.declared.angles.Azimuth.{Azimuth}
 use Rattle.reflection.specs.declared.angles.Elevation.{Elevation}
 use Rattle.finish.specs.Finish.{groundOf}
-use Rattle.patterns.specs.declared.antenna.Antenna.{Antenna}
+use Rattle.antennas.specs.declared.antenna.Antenna.{Antenna}
 use Rattle.rows.specs.declared.row.Row.{Row}
 use Rattle.cells.specs.Cell.{blendOf, blendsWithZenith, cellGain}
 use Rattle.table.specs.Table.{gainAt}

@@ -2,10 +2,10 @@
 ghost use mathlib.Core.Path.{_≡_};
 ghost use Rattle.deck.specs.Card.{cardOf, antennaFor};
 use crate::fields::Fields;
+use antennas::Antenna;
 use parameters::IoncapParams;
 use parameters::Length;
 use parameters::Model;
-use patterns::Antenna;
 
 // `params` are the slots as `ioninit` reads them, `toaz` the off-azimuth in degrees.
 pub(crate) struct Card {
@@ -56,5 +56,5 @@ pub(crate) fn card_antenna(card: Card) -> Antenna
         model,
         ..
     } = card;
-    patterns::antenna_with(kop, toaz, params, leg, height, model)
+    antennas::antenna_with(kop, toaz, params, leg, height, model)
 }

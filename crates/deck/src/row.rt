@@ -5,7 +5,7 @@ ghost use lib.ListN.{length};
 ghost use Rattle.table.specs.Table.{rowCount, columnCount, tableLength};
 ghost use Rattle.deck.specs.Columns.{ColumnsAre};
 ghost use Rattle.deck.specs.Row.{groundCell, cellAt, storedAbove, RowOfFields};
-use patterns::Antenna;
+use antennas::Antenna;
 use reflection::Azimuth;
 use reflection::Elevation;
 use rows::Row;

@@ -12,7 +12,7 @@ use lib.Ieee.Scale.{finite}
 use Rattle.single.specs.Single.{num, whole}
 use Rattle.limits.specs.Refusals.{firstRefusal}
 use Rattle.limits.specs.Tests.{anyOutside}
-use Rattle.patterns.specs.Antenna.{antennaOf}
+use Rattle.antennas.specs.Antenna.{antennaOf}
 use Rattle.gain_core.specs.declared.core.Worked.{Worked}
 use Rattle.gain_core.specs.declared.core.Worked.the-variants as W
 use Rattle.ioncap.specs.Gain.{callOutside, mhzOutside, callRefusal, callWork, answered, gainOf, gainNumber, gainValue, efficiencyValue, heightLeft}

@@ -19,7 +19,7 @@ use Rattle.reflection.specs.Angles.{elevationOf}
 use Rattle.reflection.specs.declared.angles.Elevation.{Elevation}
 use Rattle.integrals.specs.declared.entry.Turns.{Turns}
 use Rattle.finish.specs.Finish.{floor, efficiencyOf, floored, groundOf}
-use Rattle.patterns.specs.declared.antenna.Antenna.{Antenna}
+use Rattle.antennas.specs.declared.antenna.Antenna.{Antenna}
 use Rattle.rows.specs.declared.row.Row.{Row}
 use Rattle.rows.specs.declared.row.RowAnswer.the-variants as R
 use Rattle.cells.specs.Cell.{zenithGain, blendOf}

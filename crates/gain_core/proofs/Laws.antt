@@ -14,7 +14,7 @@ use Rattle.integrals.specs.declared.entry.Turns.{Turns}
 use Rattle.finish.specs.Finish.{floor, efficiencyOf, groundOf}
 use Rattle.finish.proofs.Laws.{ground-gain, ground-same, floor-rule}
 use Rattle.rows.specs.Row.{heightFor, rowOf}
-use Rattle.patterns.specs.declared.antenna.Antenna.{Antenna}
+use Rattle.antennas.specs.declared.antenna.Antenna.{Antenna}
 use Rattle.patterns.specs.declared.pattern.Pattern.{Pattern}
 use Rattle.patterns.specs.declared.pattern.Pattern.the-variants as P
 use Rattle.rows.specs.declared.row.Row.{Row}

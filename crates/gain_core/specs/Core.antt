@@ -9,7 +9,7 @@ use Rattle.finish.specs.Finish.{groundOf}
 use Rattle.rows.specs.Row.{rowOf}
 use Rattle.cells.specs.Cell.{zenithGain, blendOf, blendsWithZenith, cellGain}
 use Rattle.patterns.specs.Pattern.{patternSettles}
-use Rattle.patterns.specs.declared.antenna.Antenna.{Antenna}
+use Rattle.antennas.specs.declared.antenna.Antenna.{Antenna}
 use Rattle.rows.specs.declared.row.Row.{Row}
 use Rattle.rows.specs.declared.row.RowAnswer.{RowAnswer}
 use Rattle.rows.specs.declared.row.RowAnswer.the-variants as R

@@ -9,7 +9,7 @@ use Rattle.elementary.specs.Trigonometric.{sine, cosine}
 use Rattle.reflection.specs.Angles.{elevationOf}
 use Rattle.limits.specs.Refusals.{Test, firstRefusal}
 use Rattle.limits.specs.Tests.{anyOutside, heightTest, inputTests}
-use Rattle.patterns.specs.Antenna.{antennaOf}
+use Rattle.antennas.specs.Antenna.{antennaOf}
 use Rattle.gain_core.specs.Core.{workOf, workNumber, workGain, workEfficiency, workHeight}
 use Rattle.gain_core.specs.declared.core.Worked.{Worked}
 use Rattle.gain_core.specs.declared.core.Worked.the-variants as W

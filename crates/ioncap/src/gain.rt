@@ -90,7 +90,7 @@ pub fn gain_of(call: GainCall, height: f32) -> Gain
         fmc,
         model,
     } = call;
-    let antenna = patterns::antenna_of(kop, toaz, params, model);
+    let antenna = antennas::antenna_of(kop, toaz, params, model);
     let SineCosine { sine, cosine } = elementary::sin_cos(delta);
     let e = reflection::elevation_of(cosine, sine);
     let Worked::Settled(call) = work(antenna, fmc, delta, e, height) else {

@@ -11,7 +11,7 @@ use Rattle.curtain.specs.Floor.{takesPattern}
 use Rattle.curtain.specs.Gain.{rainOf, sokOf}
 use Rattle.curtain.specs.Cell as Curtain
 use Rattle.patterns.specs.Pattern.{settledAt, patternOf}
-use Rattle.patterns.specs.Antenna.{antennaOf}
+use Rattle.antennas.specs.Antenna.{antennaOf}
 use Rattle.rows.specs.Row.{sokFor, eff8For, rowOf}
 use Rattle.cells.specs.Cell.{blendsWithZenith, curtainCell, cellOf, cellGain}
 use Rattle.gain_core.specs.Core.{aboveGround, atGround, workOf}

@@ -5,9 +5,9 @@ use crate::line::Line;
 use crate::line::bits_at;
 use crate::line::float_at;
 use crate::line::is_at;
-use output::Decimal;
+use field_reading::Decimal;
+use field_reading::Integer;
 use output::Hundredths;
-use output::Integer;
 
 // The width of the field, at most 24.
 fn width(line: &Line) -> usize
@@ -67,7 +67,7 @@ fn is_hundredths(line: &Line) -> bool {
 fn is_integer_read(line: &Line) -> bool {
     let all: &[u8] = line;
     let end = 32 + width(line);
-    match output::read_integer(&all[32..end]) {
+    match field_reading::read_integer(&all[32..end]) {
         Integer::Number(n) => (line[1] == b'w') & (n == number(line)),
         Integer::Malformed => line[1] == b'm',
     }
@@ -76,7 +76,7 @@ fn is_integer_read(line: &Line) -> bool {
 fn is_decimal_read(line: &Line) -> bool {
     let all: &[u8] = line;
     let end = 32 + width(line);
-    match output::read_decimal(&all[32..end]) {
+    match field_reading::read_decimal(&all[32..end]) {
         Decimal::Value(x) => (line[1] == b'w') & is_at(line, 6, x),
         Decimal::Malformed => line[1] == b'm',
     }

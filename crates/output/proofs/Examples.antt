@@ -1,14 +1,11 @@
--- Worked examples, computed: document 01's `i(12345, 4)` and its listing's -5565; roundings and readings where another rule shows.
+-- Worked examples, computed: document 01's `i(12345, 4)` and its listing's -5565; roundings where another rule shows.
 use mathlib.Core.Path.{_≡_, refl}
 use mathlib.Core.List.{[], _∷_}
 use lib.IntN.{pos, negsuc}
-use lib.Ieee.{binary32, ofBits, round}
+use lib.Ieee.{binary32, ofBits}
 use Rattle.output.specs.declared.rounding.Hundredths.the-variants.{Whole}
-use Rattle.output.specs.declared.reading.Decimal.the-variants.{Value}
 use Rattle.output.specs.Field.{spelled, decimal, text, justified, integerField}
 use Rattle.output.specs.Hundredths.{hundredthsOf, printed, hundredthsField}
-use Rattle.output.specs.Digits.{spacesOf, readOn, digitsOf, unspaced, signedOf}
-use Rattle.output.specs.Decimal.{tenThousandths, pointed, decimalOf}
 
 -- `****`
 pub too-long : integerField (pos 12345) 4 ≡ 42 ∷ 42 ∷ 42 ∷ 42 ∷ []
@@ -33,13 +30,3 @@ half = refl
 pub minus-half : hundredthsOf (ofBits binary32 0xbe000000) ≡ Whole (negsuc 12)
 unfolding hundredthsOf ofBits
 minus-half = refl
-
--- `  1000.0001` is above 1000
-pub above-1000 : decimalOf (32 ∷ 32 ∷ 49 ∷ 48 ∷ 48 ∷ 48 ∷ 46 ∷ 48 ∷ 48 ∷ 48 ∷ 49 ∷ []) ≡ Value (ofBits binary32 0x447a0002)
-unfolding decimalOf pointed tenThousandths signedOf unspaced digitsOf readOn spacesOf round ofBits
-above-1000 = refl
-
--- `    -0.0000` is zero, not minus zero
-pub minus-zero : decimalOf (32 ∷ 32 ∷ 32 ∷ 32 ∷ 45 ∷ 48 ∷ 46 ∷ 48 ∷ 48 ∷ 48 ∷ 48 ∷ []) ≡ Value (ofBits binary32 0)
-unfolding decimalOf pointed tenThousandths signedOf unspaced digitsOf readOn spacesOf round ofBits
-minus-zero = refl

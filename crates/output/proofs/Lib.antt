@@ -3,10 +3,4 @@ pub mod Field
 pub mod Exact
 pub mod Answers
 pub mod Printed
-pub mod Steps
-pub mod Round
-pub mod Sizes
-pub mod Parts
-pub mod Malformed
 pub mod Examples
-pub mod ReadBack

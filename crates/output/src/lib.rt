@@ -1,13 +1,7 @@
-// Numbers in columns: document 01 section 10.
-mod nearest;
-mod reading;
+// Numbers written in columns: document 01 section 10.
 mod rounding;
 mod writing;
 
-pub use reading::Decimal;
-pub use reading::Integer;
-pub use reading::read_decimal;
-pub use reading::read_integer;
 pub use rounding::Hundredths;
 pub use rounding::to_hundredths;
 pub use writing::hundredths_field;

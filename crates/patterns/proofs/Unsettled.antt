@@ -27,7 +27,7 @@ use Rattle.inverted_l.proofs.Refusal.{inverted-l-number}
 use Rattle.inverted_l.specs.declared.inverted_l.InvertedLRow.{InvertedLRow}
 use Rattle.inverted_l.specs.declared.inverted_l.InvertedLRow.the-variants as L
 use Rattle.patterns.specs.Pattern.{settledAt, ofDipole, ofMonopole, ofInvertedL, dipoleOf, monopoleFor, invertedLOf, patternBy, patternOf, patternSettles, patternNumber, patternValue}
-use Rattle.patterns.specs.declared.antenna.Antenna.{Antenna}
+use Rattle.antennas.specs.declared.antenna.Antenna.{Antenna}
 use Rattle.patterns.specs.declared.pattern.Pattern.the-variants as P
 use Rattle.patterns.specs.declared.pattern.PatternAnswer.{PatternAnswer}
 use Rattle.patterns.specs.declared.pattern.PatternAnswer.the-variants.{Settled, Unsettled}

@@ -1,2 +1,1 @@
-pub mod Antenna
 pub mod Pattern

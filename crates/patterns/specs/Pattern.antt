@@ -31,7 +31,7 @@ use Rattle.inverted_l.specs.declared.inverted_l.InvertedLRow.{InvertedLRow}
 use Rattle.inverted_l.specs.declared.inverted_l.InvertedLRow.the-variants as L
 use Rattle.curtain.specs.Card.{cardOf}
 use Rattle.curtain.specs.Row.{rowOf}
-use Rattle.patterns.specs.declared.antenna.Antenna.{Antenna}
+use Rattle.antennas.specs.declared.antenna.Antenna.{Antenna}
 use Rattle.patterns.specs.declared.pattern.Pattern.{Pattern}
 use Rattle.patterns.specs.declared.pattern.Pattern.the-variants as P
 use Rattle.patterns.specs.declared.pattern.PatternAnswer.{PatternAnswer}

@@ -4,7 +4,7 @@ ghost use Rattle.single.specs.Answer.{IsAnswer};
 ghost use Rattle.patterns.specs.Pattern.{patternSettles, patternNumber, patternValue};
 ghost use Rattle.patterns.specs.declared.pattern.Pattern.the-variants as P;
 ghost use Rattle.patterns.specs.Pattern.{settledAt, dipoleOf, monopoleFor, invertedLOf, patternOf, powerOf};
-use crate::antenna::Antenna;
+use antennas::Antenna;
 use curtain::CurtainCard;
 use curtain::CurtainRow;
 use dipoles::Dipole;

@@ -21,7 +21,7 @@ use Rattle.parameters.specs.declared.length.Length.the-variants.{Metres, Wavele
 use Rattle.reflection.specs.Angles.{waveOf}
 use Rattle.patterns.specs.Pattern.{patternOf}
 use Rattle.rows.specs.Row.{heightFor, rowFrom, rowOf}
-use Rattle.patterns.specs.declared.antenna.Antenna.{Antenna}
+use Rattle.antennas.specs.declared.antenna.Antenna.{Antenna}
 use Rattle.patterns.specs.declared.pattern.PatternAnswer.{PatternAnswer}
 use Rattle.patterns.specs.declared.pattern.PatternAnswer.the-variants as A
 use Rattle.rows.specs.declared.row.Row.{Row}

@@ -8,7 +8,7 @@ use Rattle.integrals.specs.Settled.{settledNumber}
 use Rattle.single.proofs.Answer.{answers}
 use Rattle.reflection.specs.Angles.{waveOf}
 use Rattle.patterns.specs.Pattern.{patternSettles, patternNumber}
-use Rattle.patterns.specs.declared.antenna.Antenna.{Antenna}
+use Rattle.antennas.specs.declared.antenna.Antenna.{Antenna}
 use Rattle.patterns.specs.declared.pattern.PatternAnswer.{PatternAnswer}
 use Rattle.patterns.specs.declared.pattern.PatternAnswer.the-variants as A
 use Rattle.patterns.proofs.Unsettled.{pattern-number}

@@ -14,7 +14,7 @@ use Rattle.reflection.specs.Angles.{waveOf}
 use Rattle.reflection.specs.Soil.{soilOf}
 use Rattle.finish.specs.Finish.{efficiencyOf}
 use Rattle.patterns.specs.Pattern.{patternOf}
-use Rattle.patterns.specs.declared.antenna.Antenna.{Antenna}
+use Rattle.antennas.specs.declared.antenna.Antenna.{Antenna}
 use Rattle.patterns.specs.declared.pattern.Pattern.{Pattern}
 use Rattle.patterns.specs.declared.pattern.Pattern.the-variants as P
 use Rattle.patterns.specs.declared.pattern.PatternAnswer.{PatternAnswer}

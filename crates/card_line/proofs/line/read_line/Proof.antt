@@ -1,7 +1,7 @@
 use mathlib.Core.Path.{_≡_, sym, _∙_}
 use mathlib.Core.List.{List}
 use Prim.Native.Nat.{ℕ}
-use Rattle.output.specs.declared.reading.Integer.the-variants.{Number}
+use Rattle.field_reading.specs.declared.reading.Integer.the-variants.{Number}
 use Rattle.card_line.specs.Line.{integerAt}
 use Rattle.card_line.proofs.Integers.{i32-fits}
 use Rattle.card_line.proofs.Laws.{wrong-length}

@@ -9,7 +9,7 @@ use Rattle.integrals.specs.declared.entry.Turns.{Turns}
 use Rattle.finish.specs.Finish.{groundOf}
 use Rattle.finish.specs.declared.Finished.{Finished}
 use Rattle.cells.specs.Cell.{blendsWithZenith, zenithGain, blendOf, cellGain}
-use Rattle.patterns.specs.declared.antenna.Antenna.{Antenna}
+use Rattle.antennas.specs.declared.antenna.Antenna.{Antenna}
 use Rattle.rows.specs.Row.{rowOf}
 use Rattle.rows.specs.declared.row.Row.{Row}
 use Rattle.rows.specs.declared.row.RowAnswer.the-variants as R

@@ -3,7 +3,7 @@ use lib.IntN.{ℤ}
 use mir.Syntax.{w32}
 use mir.ValLaws.{toZ-ofZ}
 use borrow.Author.Tests.{ne-eqb}
-use Rattle.patterns.specs.Antenna.{antennaOf}
+use Rattle.antennas.specs.Antenna.{antennaOf}
 use Rattle.ioncap.specs.Gain.{answered, callWork, gainOf}
 use borrow.Author.Needs.{needs}
 use Rattle.ioncap.proofs.Answers.{answers}

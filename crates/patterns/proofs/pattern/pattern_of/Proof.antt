@@ -7,7 +7,7 @@ use Rattle.single.specs.Answer.{IsAnswer}
 use Rattle.parameters.specs.Params.{isType}
 use Rattle.parameters.proofs.Types.{is-type, no-type}
 use Rattle.patterns.specs.Pattern.{patternBy, patternOf, patternSettles, patternNumber, patternValue}
-use Rattle.patterns.specs.declared.antenna.Antenna.{Antenna}
+use Rattle.antennas.specs.declared.antenna.Antenna.{Antenna}
 use Rattle.patterns.specs.declared.pattern.Pattern.the-variants as P
 use Rattle.patterns.specs.declared.pattern.PatternAnswer.{PatternAnswer}
 use Rattle.patterns.proofs.Unsettled.{pattern-answers, type-answers}

@@ -1,0 +1,5 @@
+pub mod Digits
+pub mod Integer
+pub mod Decimal
+pub mod Malformed
+pub mod Nearest
