@@ -1,4 +1,4 @@
--- The constants of sections 2 to 6 have the bits that their table says: one computed test, and what it says of each. Assumes nothing.
+-- The constants of sections 2 to 6, 8, 9 and of the limits have the bits that their table says: one computed test, and what it says of each. Assumes nothing.
 use mathlib.Core.List.{List, [], _∷_}
 use lib.Dec.{T}
 use lib.Ieee.{fits, toBits, neg, round}

@@ -1,4 +1,5 @@
--- Document 01 sections 2 to 6: the constants that their definitions hold as decimals, each beside the bits of the nearest f32. Section 1's are in elementary/specs/Constants.antt. Definitions only.
+-- Document 01 sections 2 to 6, 8, 9 and "From the input": the constants of their definitions, each beside the bits of the nearest f32. Definitions only.
+-- Section 1's are in elementary/specs/Constants.antt; the cone's tables of section 9, whole numbers and tenths, stand in inverted_cone/specs alone.
 use mathlib.Core.Path.{_≡_}
 use mathlib.Core.List.{List, [], _∷_, _++_}
 use lib.Ieee.{binary32, ofBits}
@@ -11,6 +12,8 @@ use Rattle.reflection.specs.Angles.{pi, rightAngle}
 use Rattle.verticals.specs.Monopole.{rintw}
 use Rattle.curtain.specs.Floor.{pio2}
 use Rattle.finish.specs.Finish.{floor}
+use Rattle.limits.specs.Tests.{most}
+use Rattle.antenna.specs.Places.{r2d}
 
 -- whole numbers, of any section
 abbrev pub wholeConstants : List Constant
@@ -67,7 +70,7 @@ integralConstants =
     ∷ (millionths 38102495 is 0x421868f4)
     ∷ []
 
--- section 4 (crates reflection, rhombics, interlaced, slopes, sloping_patterns)
+-- section 4 (crates reflection, rhombics, interlaced, slopes, sloping_patterns); 0.017453293 is section 8's too
 abbrev pub patternConstants : List Constant
 patternConstants =
     (pi is 0x40490fda)
@@ -114,8 +117,24 @@ finishConstants =
     ∷ (num 17 10 is 0x3fd9999a)
     ∷ []
 
+-- section 9, lookups (crate antenna): R2D
+abbrev pub lookupConstants : List Constant
+lookupConstants = (r2d is 0x42652ee1) ∷ []
+
+-- "From the input" (crate limits): refusal 2's magnitude and refusal 5's bays. Refusal 4's 1 and 30 and refusal 6's 1,048,576 stand above
+abbrev pub limitConstants : List Constant
+limitConstants = (most is 0x447a0000) ∷ (num 64 1 is 0x42800000) ∷ []
+
 abbrev pub constants : List Constant
-constants = wholeConstants ++ lengthConstants ++ integralConstants ++ patternConstants ++ rowConstants ++ finishConstants
+constants =
+    wholeConstants
+    ++ lengthConstants
+    ++ integralConstants
+    ++ patternConstants
+    ++ rowConstants
+    ++ finishConstants
+    ++ lookupConstants
+    ++ limitConstants
 
 -- each is the f32 of its bits
 unfoldable pub EachIs : List Constant → Type 0

@@ -211,7 +211,8 @@ fn show_turns(x: f32, text: &[u8]) {
     print_text(text);
 }
 
-// Within `cisi`'s limits three turns suffice; only below 0 are there eight, and more.
+// Within `cisi`'s limits three turns suffice: measured over every f32 from 0 to below 1, not proved.
+// Below 0, outside the limits, there are eight, and more.
 fn series() {
     show_turns(0.0, b"turns at 0");
     show_turns(0.9, b"turns at 0.9");
