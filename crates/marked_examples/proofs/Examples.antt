@@ -35,11 +35,17 @@ use Rattle.inverted_cone.specs.InvertedCone.{coneFreqs, coneElevs, cone, upperF
 use Rattle.inverted_cone.specs.declared.cone.ConeGain.{ConeGain}
 use Rattle.inverted_cone.specs.declared.cone.ConeGain.the-variants as C
 use Rattle.output.specs.Field.{spelled, decimal, text, justified, integerField}
-use Rattle.marked_examples.specs.Examples.{Example, gainIs, coneIs, lookupIs, fieldIs, Is, EachIs, table, examples, same, sameGain, sameCone, sameLookup, sameBytes, holds, all, allHold}
+use Rattle.marked_examples.specs.Examples.{Example, gainIs, coneIs, lookupIs, fieldIs, Is, EachIs, table, examples}
+use Rattle.marked_examples.specs.Examples.{same, sameGain, sameCone, sameLookup, sameBytes, holds, all, allHold}
 
 -- the test
 pub marked-examples-hold : T allHold
-unfolding allHold all holds table same sameGain sameCone sameLookup sameBytes gainOf callRefusal callOutside mhzOutside callWork workOf atGround aboveGround blendsWithZenith cellGain cellOf curtainCell antennaOf sokFor heightFor eff8For rowOf patternOf settledAt Curtain.cellOf rainOf sokOf takesPattern floored efficiencyOf monopoleEfficiency groundOf curtainElevationThreshold isType firstRefusal isIoncapType outside anyOutside tooManyBays absolute cutToward isTable clamped nextOf placeOf Table.rowOf Table.blended lookupRefusal gainLookupOf coneFreqs coneElevs cone upperFrom upperOf interpOf weightOf coneAt coneValue invconNumber invconOf integerField justified text decimal spelled fits round add sub mul div le lt eq neg toBits ofInt toSigned
+unfolding allHold all holds table same sameGain sameCone sameLookup sameBytes gainOf callRefusal callOutside mhzOutside callWork workOf
+unfolding atGround aboveGround blendsWithZenith cellGain cellOf curtainCell antennaOf sokFor heightFor eff8For rowOf patternOf settledAt
+unfolding Curtain.cellOf rainOf sokOf takesPattern floored efficiencyOf monopoleEfficiency groundOf curtainElevationThreshold isType
+unfolding firstRefusal isIoncapType outside anyOutside tooManyBays absolute cutToward isTable clamped nextOf placeOf Table.rowOf
+unfolding Table.blended lookupRefusal gainLookupOf coneFreqs coneElevs cone upperFrom upperOf interpOf weightOf coneAt coneValue
+unfolding invconNumber invconOf integerField justified text decimal spelled fits round add sub mul div le lt eq neg toBits ofInt toSigned
 marked-examples-hold = tt
 
 -- ---- what it says of each
@@ -47,19 +53,21 @@ marked-examples-hold = tt
 float-is : (x y : Float) → T (same x y) → x ≡ y
 unfolding same
 float-is x y t =
-    let fit = and-l (fits binary32 x && fits binary32 y) (eqb (toBits binary32 x) (toBits binary32 y)) t in
-    let bits = eqb→eq (toBits binary32 x) (toBits binary32 y) (and-r (fits binary32 x && fits binary32 y) (eqb (toBits binary32 x) (toBits binary32 y)) t) in
-    sym (ofBits-toBits binary32 x (and-l (fits binary32 x) (fits binary32 y) fit))
-    ∙ ap (ofBits binary32) bits
-    ∙ ofBits-toBits binary32 y (and-r (fits binary32 x) (fits binary32 y) fit)
+    let fit = fits binary32 x && fits binary32 y in
+    let bits = eqb (toBits binary32 x) (toBits binary32 y) in
+    sym (ofBits-toBits binary32 x (and-l (fits binary32 x) (fits binary32 y) (and-l fit bits t)))
+    ∙ ap (ofBits binary32) (eqb→eq (toBits binary32 x) (toBits binary32 y) (and-r fit bits t))
+    ∙ ofBits-toBits binary32 y (and-r (fits binary32 x) (fits binary32 y) (and-l fit bits t))
 
 gain-is : (g h : Gain) → T (sameGain g h) → g ≡ h
 unfolding sameGain
 gain-is (G.Accepted a) (G.Accepted b) t =
-    let both = and-l (same (a .gain) (b .gain) && same (a .efficiency) (b .efficiency)) (same (a .height) (b .height)) t in
-    let gain = float-is (a .gain) (b .gain) (and-l (same (a .gain) (b .gain)) (same (a .efficiency) (b .efficiency)) both) in
-    let efficiency = float-is (a .efficiency) (b .efficiency) (and-r (same (a .gain) (b .gain)) (same (a .efficiency) (b .efficiency)) both) in
-    let height = float-is (a .height) (b .height) (and-r (same (a .gain) (b .gain) && same (a .efficiency) (b .efficiency)) (same (a .height) (b .height)) t) in
+    let g = same (a .gain) (b .gain) in
+    let e = same (a .efficiency) (b .efficiency) in
+    let h = same (a .height) (b .height) in
+    let gain = float-is (a .gain) (b .gain) (and-l g e (and-l (g && e) h t)) in
+    let efficiency = float-is (a .efficiency) (b .efficiency) (and-r g e (and-l (g && e) h t)) in
+    let height = float-is (a .height) (b .height) (and-r (g && e) h t) in
     λ i. G.Accepted (record { gain = gain i; efficiency = efficiency i; height = height i })
 gain-is (G.Accepted a) (G.Refused n) t = absurd t
 gain-is (G.Refused m) (G.Accepted b) t = absurd t
@@ -75,8 +83,10 @@ cone-is (C.Refused m) (C.Refused n) t = ap C.Refused (eqb→eq m n t)
 lookup-is : (g h : Lookup) → T (sameLookup g h) → g ≡ h
 unfolding sameLookup
 lookup-is (L.Accepted a) (L.Accepted b) t =
-    let gain = float-is (a .gain) (b .gain) (and-l (same (a .gain) (b .gain)) (same (a .efficiency) (b .efficiency)) t) in
-    let efficiency = float-is (a .efficiency) (b .efficiency) (and-r (same (a .gain) (b .gain)) (same (a .efficiency) (b .efficiency)) t) in
+    let g = same (a .gain) (b .gain) in
+    let e = same (a .efficiency) (b .efficiency) in
+    let gain = float-is (a .gain) (b .gain) (and-l g e t) in
+    let efficiency = float-is (a .efficiency) (b .efficiency) (and-r g e t) in
     λ i. L.Accepted (record { gain = gain i; efficiency = efficiency i })
 lookup-is (L.Accepted a) (L.Refused n) t = absurd t
 lookup-is (L.Refused m) (L.Accepted b) t = absurd t

@@ -1,4 +1,5 @@
--- Document 01, "Marked (M) and other examples": the twelve values under its eight marks, each said once. `EachIs` reads them as equations, `allHold` as one test. Definitions only.
+-- Document 01, "Marked (M) and other examples": the twelve values under its eight marks, each said once. Definitions only.
+-- `EachIs` reads them as equations, `allHold` as one test.
 use Prim.Native.Nat.{ℕ}
 use mathlib.Core.Path.{_≡_}
 use mathlib.Core.Bool.{Bool, true, false, _&&_}
