@@ -9,9 +9,8 @@ use lib.Dec.{T, eqb}
 use lib.Ieee.{Float, nan, lt, neg, round}
 use lib.Ieee.Scale.{finite}
 use Rattle.single.specs.Single.{num}
-use Rattle.finish.specs.Finish.{floor}
 use Rattle.table.specs.Table.{gainAt, efficiencyAt, cleared}
-use Rattle.independence.specs.Antenna.{Antenna, floorPlus, hasSecondCall}
+use Rattle.independence.specs.Antenna.{Antenna, floorPlus, AboveFloor, hasSecondCall}
 use Rattle.independence.specs.Laws.{Fills, Laws}
 use Rattle.independence.specs.Filling.{callAt, heightAt, rowsOf, cardTable}
 use Rattle.independence.specs.Deck.{Deck, card, Entry, Outcome, verdictOn, tableBy, outcomeOn, deckAfter, run}
@@ -25,7 +24,7 @@ lower-or-not a zero = inr zero-le
 lower-or-not zero (suc b) = inl (suc-le-suc zero-le)
 lower-or-not (suc a) (suc b) = elim (lower-or-not a b) [ inl l ↦ inl (suc-le-suc l) | inr g ↦ inr (suc-le-suc g) ]
 
-zero-above : T (lt floor (num 0 1))
+zero-above : AboveFloor (num 0 1)
 unfolding lt neg round
 zero-above = tt
 
@@ -81,13 +80,13 @@ module _ (A : Antenna) (L : Laws A) (limit : ℕ) where
   -- ---- the rule of -30
   abbrev Floored : A .Card → Float → ℕ → ℕ → Type 0
   Floored c h m d =
-      T (lt floor (cell (cardTable A c h) (gainAt m d)))
+      AboveFloor (cell (cardTable A c h) (gainAt m d))
       ⊎ ((A .first c ≤ m) × (m ≤ A .last c) × (cell (cardTable A c h) (gainAt m d) ≡ floorPlus (callAt A c m (carriedAtRow A c h m) d .efficiency)))
 
   unfilled : (c : A .Card) (h : Float) (m d : ℕ) → Passes A c h → 1 ≤ m → m ≤ 30 → d < 91 → (m < A .first c) ⊎ (A .first c + rowsOf A c ≤ m) → Floored c h m d
   unfilled c h m d p l top k o =
       inl
-      (subst (λ (g : Float). T (lt floor g))
+      (subst AboveFloor
       (sym (rows-other A L c h (rowsOf A c) m d cleared (L .range c (p .input) .0) l top k o ∙ cleared-cell m d top k)) zero-above)
 
   filled : (c : A .Card) (h : Float) (m d : ℕ) → Passes A c h → T (not (eqb (A .typeOf c) 2 || hasSecondCall (A .typeOf c))) → A .first c ≤ m → m ≤ A .last c → d < 91
@@ -97,7 +96,7 @@ module _ (A : Antenna) (L : Laws A) (limit : ℕ) where
       let F : Fills A c m = record { passes = p .input; low = lo; high = hi } in
       elim (L .floored c m d (heightAt A c m (carriedAtRow A c h m) d) F k type (g .1)) [
         | inl q ↦ absurd (number (g .0 ∙ q))
-        | inr (inl q) ↦ inl (subst (λ (x : Float). T (lt floor x)) (sym (g .0)) q)
+        | inr (inl q) ↦ inl (subst AboveFloor (sym (g .0)) q)
         | inr (inr q) ↦ inr (lo, hi, g .0 ∙ q)
       ]
 

@@ -1,8 +1,8 @@
 -- What a deck takes from document 01 sections 2 to 6: cards, their refusals from the input, and the gain call of a cell. Definitions only.
 use Prim.Native.Nat.{ℕ}
 use mathlib.Core.Bool.{Bool, _||_, cond}
-use lib.Dec.{eqb}
-use lib.Ieee.{Float}
+use lib.Dec.{T, eqb}
+use lib.Ieee.{Float, lt}
 use Rattle.single.specs.Single.{_⊞_, num}
 use Rattle.finish.specs.Finish.{floor}
 
@@ -33,6 +33,10 @@ pub record Antenna : Type 1 where
 -- the term "-30 plus an efficiency": their single-precision sum
 unfoldable pub floorPlus : Float → Float
 floorPlus efficiency = floor ⊞ efficiency
+
+-- a gain that is "above -30"
+abbrev pub AboveFloor : Float → Type 0
+AboveFloor gain = T (lt floor gain)
 
 -- types 2 and 5 carry their height; types 3 and 4 call a second time, straight up
 abbrev pub carriesHeight : ℕ → Bool

@@ -7,11 +7,10 @@ use mathlib.Core.Logic.{_⊎_, _≢_}
 use Prim.Native.Nat.{ℕ, zero, suc, _+_, _-_, _<_, _≤_}
 use lib.ListN.{length, getD}
 use lib.Dec.{T, eqb}
-use lib.Ieee.{Float, nan, lt}
+use lib.Ieee.{Float, nan}
 use Rattle.single.specs.Single.{num}
-use Rattle.finish.specs.Finish.{floor}
 use Rattle.table.specs.Table.{rowCount, columnCount, gainAt}
-use Rattle.independence.specs.Antenna.{Antenna, floorPlus, carriesHeight, hasSecondCall, heightLeft}
+use Rattle.independence.specs.Antenna.{Antenna, floorPlus, AboveFloor, carriesHeight, hasSecondCall, heightLeft}
 use Rattle.independence.specs.Filling.{callAt, rowsOf}
 use Rattle.independence.specs.Deck.{Line, card, malformed, Entry, Outcome, without}
 
@@ -85,7 +84,7 @@ module _ (A : Antenna) where
     pub groundOf8 : A .typeOf c ≡ 8 → (m : ℕ) → A .first c ≤ m → m ≤ A .last c → cell t (groundAt m) ≡ floorPlus (num 0 1)
     -- "outside types 2, 3 and 4, every gain of an accepted card, where it is a number, is above -30 or equals -30 plus that cell's efficiency"
     pub everyGain : T (not (eqb (A .typeOf c) 2 || hasSecondCall (A .typeOf c))) → (m d : ℕ) → 1 ≤ m → m ≤ rowCount → d < columnCount → cell t (gainAt m d) ≢ nan
-        → T (lt floor (cell t (gainAt m d)))
+        → AboveFloor (cell t (gainAt m d))
         ⊎ ((A .first c ≤ m) × (m ≤ A .last c) × (cell t (gainAt m d) ≡ floorPlus (callAt A c m (carriedAtRow c h m) d .efficiency)))
 
   -- of all accepted cards of a run, which begins at the height 0

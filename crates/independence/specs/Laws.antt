@@ -4,12 +4,11 @@ use mathlib.Core.Bool.{not, _||_}
 use mathlib.Core.Logic.{_⊎_, _≢_}
 use Prim.Native.Nat.{ℕ, suc, _<_, _≤_}
 use lib.Dec.{T, eqb}
-use lib.Ieee.{Float, nan, lt}
+use lib.Ieee.{Float, nan}
 use lib.Ieee.Scale.{finite}
 use Rattle.single.specs.Single.{num}
-use Rattle.finish.specs.Finish.{floor}
 use Rattle.table.specs.Table.{rowCount, columnCount}
-use Rattle.independence.specs.Antenna.{Antenna, floorPlus, carriesHeight, hasSecondCall, heightLeft}
+use Rattle.independence.specs.Antenna.{Antenna, floorPlus, AboveFloor, carriesHeight, hasSecondCall, heightLeft}
 
 -- the term "filled rows": first to last MHz of a card, here of one that passes the tests of its input
 pub record Fills (A : Antenna) (c : A .Card) (m : ℕ) : Type 0 where
@@ -37,4 +36,4 @@ pub record Laws (A : Antenna) : Type 0 where
   pub efficiencyOf8 : (h : Float) → A .efficiencyOf 8 h ≡ num 0 1
   -- outside types 2, 3 and 4 a gain that is a number is above -30 or is -30 plus its efficiency
   pub floored : (c : A .Card) (m d : ℕ) (h : Float) → Fills A c m → d < columnCount → T (not (eqb (A .typeOf c) 2 || hasSecondCall (A .typeOf c))) → A .call c m d h .refusal ≡ 0
-      → (A .call c m d h .gain ≡ nan) ⊎ (T (lt floor (A .call c m d h .gain)) ⊎ (A .call c m d h .gain ≡ floorPlus (A .call c m d h .efficiency)))
+      → (A .call c m d h .gain ≡ nan) ⊎ (AboveFloor (A .call c m d h .gain) ⊎ (A .call c m d h .gain ≡ floorPlus (A .call c m d h .efficiency)))

@@ -41,11 +41,11 @@ use Rattle.marked_examples.specs.Examples.{same, sameGain, sameCone, sam
 -- the test
 pub marked-examples-hold : T allHold
 unfolding allHold all holds table same sameGain sameCone sameLookup sameBytes gainOf callRefusal callOutside mhzOutside callWork workOf
-unfolding atGround aboveGround blendsWithZenith cellGain cellOf curtainCell antennaOf sokFor heightFor eff8For rowOf patternOf settledAt
-unfolding Curtain.cellOf rainOf sokOf takesPattern floored efficiencyOf monopoleEfficiency groundOf curtainElevationThreshold isType
-unfolding firstRefusal isIoncapType outside anyOutside tooManyBays absolute cutToward isTable clamped nextOf placeOf Table.rowOf
-unfolding Table.blended lookupRefusal gainLookupOf coneFreqs coneElevs cone upperFrom upperOf interpOf weightOf coneAt coneValue
-unfolding invconNumber invconOf integerField justified text decimal spelled fits round add sub mul div le lt eq neg toBits ofInt toSigned
+    atGround aboveGround blendsWithZenith cellGain cellOf curtainCell antennaOf sokFor heightFor eff8For rowOf patternOf settledAt
+    Curtain.cellOf rainOf sokOf takesPattern floored efficiencyOf monopoleEfficiency groundOf curtainElevationThreshold isType firstRefusal
+    isIoncapType outside anyOutside tooManyBays absolute cutToward isTable clamped nextOf placeOf Table.rowOf Table.blended lookupRefusal
+    gainLookupOf coneFreqs coneElevs cone upperFrom upperOf interpOf weightOf coneAt coneValue invconNumber invconOf integerField justified
+    text decimal spelled fits round add sub mul div le lt eq neg toBits ofInt toSigned
 marked-examples-hold = tt
 
 -- ---- what it says of each
