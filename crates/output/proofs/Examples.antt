@@ -1,4 +1,4 @@
--- Worked examples, computed: document 01's `i(12345, 4)` and its listing's -5565; roundings where another rule shows.
+-- Worked examples, computed: -5565 of document 01's listing; roundings where another rule shows. Its `i(12345, 4)` is in marked_examples.
 use mathlib.Core.Path.{_≡_, refl}
 use mathlib.Core.List.{[], _∷_}
 use lib.IntN.{pos, negsuc}
@@ -6,11 +6,6 @@ use lib.Ieee.{binary32, ofBits}
 use Rattle.output.specs.declared.rounding.Hundredths.the-variants.{Whole}
 use Rattle.output.specs.Field.{spelled, decimal, text, justified, integerField}
 use Rattle.output.specs.Hundredths.{hundredthsOf, printed, hundredthsField}
-
--- `****`
-pub too-long : integerField (pos 12345) 4 ≡ 42 ∷ 42 ∷ 42 ∷ 42 ∷ []
-unfolding integerField justified text decimal spelled
-too-long = refl
 
 -- -55.646202: `  -5565`
 pub ground : hundredthsField (ofBits binary32 0xc25e95b6) 7 ≡ 32 ∷ 32 ∷ 45 ∷ 53 ∷ 53 ∷ 54 ∷ 53 ∷ []
