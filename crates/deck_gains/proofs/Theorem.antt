@@ -4,7 +4,6 @@ use mathlib.Core.Bool.{false}
 use mathlib.Core.List.{List}
 use Prim.Native.Nat.{ℕ, zero, suc, _+_, _-_, _<_, _≤_}
 use native.Mathlib.Omega.{arith}
-use native.Mathlib.Nat.{not-suc-le-zero}
 use lib.Dec.{T}
 use lib.Ieee.{Float, le}
 use lib.Ieee.Bits.{is-true}
@@ -36,7 +35,7 @@ use Rattle.deck.specs.Run.{countLimit}
 use Rattle.deck.proofs.Degrees.{elevation-within, mhz-within}
 use Rattle.deck.proofs.Passes.{fields-passed, in-range, azimuth-within, params-within}
 use Rattle.deck.proofs.Laws.{theLaws, mhz-range}
-use Rattle.deck_gains.specs.CellCalls.{cellCall, IsGainOf, TableOfCalls, TablesOfCalls}
+use Rattle.deck_gains.specs.CellCalls.{cellCall, IsGainOf, IsAbove, TableOfCalls, TablesOfCalls}
 
 -- ---- what a deck's call and a gain call make of the same work
 record Answers (a : Answer) (w : Worked) (height : Float) : Type 0 where
@@ -115,10 +114,10 @@ module _ (f : Fields) (h : Float) (p : Passes theAntenna f h) (fin : T (finite h
       let g = filled-cell theAntenna theLaws countLimit f h m 0 p lo hi (omega arith) in
       gain-is f m 0 (fills m lo hi) (omega arith) (carriedAtRow theAntenna f h m) (carried-finite (m - theAntenna .first f) (omega arith)) _ (g .1) (g .0)
 
-  above-cell : (m d : ℕ) → theAntenna .first f ≤ m → m ≤ theAntenna .last f → 1 ≤ d → d < 91 → (height : Float) → T (finite height)
+  above-cell : (m d : ℕ) → theAntenna .first f ≤ m → m ≤ theAntenna .last f → IsAbove d → d < 91 → (height : Float) → T (finite height)
       → IsGainOf (cellCall f m d) height (cell (cardTable theAntenna f h) (gainAt m d))
-  above-cell m zero lo hi one k height fin′ = absurd (not-suc-le-zero one)
-  above-cell m (suc d) lo hi one k height fin′ =
+  above-cell m zero lo hi above k height fin′ = let none : ⊥ = omega (arith, above) in absurd none
+  above-cell m (suc d) lo hi above k height fin′ =
       gain-is f m (suc d) (fills m lo hi) k height fin′ _ (accepted-above m d lo hi (omega arith) height)
       (filled-cell theAntenna theLaws countLimit f h m (suc d) p lo hi k .0 ∙ ap (λ (a : Answer). a .gain) (call-above m d lo hi (omega arith) height))
 

@@ -25,12 +25,16 @@ pub record IsGainOf (call : GainCall) (height x : Float) : Type 0 where
   pub accepted : gainNumber (gainOf call height) ≡ 0
   pub gain : x ≡ gainValue (gainOf call height)
 
+-- d degrees are above the ground
+abbrev pub IsAbove : ℕ → Type 0
+IsAbove d = 1 ≤ d
+
 -- the filled rows of a card that finds the height h and leaves the table t
 pub record TableOfCalls (f : Fields) (h : Float) (t : List Float) : Type 0 where
   -- the ground cell's call takes the carried height
   pub ground : (m : ℕ) → theAntenna .first f ≤ m → m ≤ theAntenna .last f → IsGainOf (cellCall f m 0) (carriedAtRow theAntenna f h m) (cell t (groundAt m))
   -- a call above the ground answers the same whatever the height, if that is finite (refusal 9)
-  pub above : (m d : ℕ) → theAntenna .first f ≤ m → m ≤ theAntenna .last f → 1 ≤ d → d < columnCount → (height : Float) → T (finite height)
+  pub above : (m d : ℕ) → theAntenna .first f ≤ m → m ≤ theAntenna .last f → IsAbove d → d < columnCount → (height : Float) → T (finite height)
       → IsGainOf (cellCall f m d) height (cell t (gainAt m d))
   -- a row's efficiency is its 90-degree call's, and the next row finds the height that this call leaves
   pub efficiency : (m : ℕ) → theAntenna .first f ≤ m → m ≤ theAntenna .last f → (height : Float) → T (finite height)
