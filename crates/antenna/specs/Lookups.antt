@@ -27,6 +27,10 @@ unfoldable pub lookupValues : Lookup → GainEfficiency
 lookupValues (Accepted v) = v
 lookupValues (Refused n) = zeros
 
+-- an answer: by the number of its refusal, or with the values
+abbrev pub answered : ℕ → GainEfficiency → Lookup
+answered refusal values = cond (eqb refusal 0) (Accepted values) (Refused refusal)
+
 -- the blend of two rows at a place
 abbrev pub blendedAt : Place → (ℕ → ℕ → ℕ → Row) → GainEfficiency
 blendedAt p row = blended (row (p .i) (p .j) (p .jp1)) (row (p .ip1) (p .j) (p .jp1)) (p .xfmc) (p .xdelta)
@@ -39,8 +43,7 @@ gainLookupValues t fmc delta = cond (eqb (lookupRefusal t fmc delta) 0) (blended
 
 -- the whole answer
 unfoldable pub gainLookupOf : List Float → Float → Float → Lookup
-gainLookupOf t fmc delta =
-    let refusal = lookupRefusal t fmc delta in cond (eqb refusal 0) (Accepted (blendedAt (placeOf fmc delta) (rowOf t))) (Refused refusal)
+gainLookupOf t fmc delta = answered (lookupRefusal t fmc delta) (blendedAt (placeOf fmc delta) (rowOf t))
 
 abbrev pub cardLookupNumber : ℤ → ℤ → ℕ → List Float → Float → Float → ℕ
 cardLookupNumber first last verdict t fmc delta = cardRefusal first last verdict t fmc delta
@@ -53,5 +56,4 @@ cardLookupValues first last verdict t fmc delta =
 -- the whole answer
 unfoldable pub cardLookupOf : ℤ → ℤ → ℕ → List Float → Float → Float → Lookup
 cardLookupOf first last verdict t fmc delta =
-    let refusal = cardRefusal first last verdict t fmc delta in
-    cond (eqb refusal 0) (Accepted (cond (eqb verdict 0) (blendedAt (placeOf fmc delta) (filledRow first last t)) zeros)) (Refused refusal)
+    answered (cardRefusal first last verdict t fmc delta) (cond (eqb verdict 0) (blendedAt (placeOf fmc delta) (filledRow first last t)) zeros)

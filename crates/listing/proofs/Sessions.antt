@@ -48,7 +48,8 @@ module _ (s : S.Session) (line : List ℕ) (table : List Float) (out : List ℕ)
   not-now e = sym is ∙ false-of b e
 
   -- the parts of a step's answer are all of it
-  answer-is : (piece line′ : List ℕ) (table′ : List Float) (r : D.Stepped) → let step = stepOf (isReady line table out at) (stateIn s line table) piece in
+  answer-is : (piece line′ : List ℕ) (table′ : List Float) (r : D.Stepped)
+      → let step = stepOf (isReady line table out at) (stateIn s line table) piece in
       stateIn (r .session) line′ table′ ≡ step .state → r .session .held ≡ cond (isReady line table out at) (length (step .state .held)) (s .held)
       → drop (r .used) piece ≡ step .rest → r .used ≤ length piece → r .at ≡ at + length (step .text) → r ≡ steppedOf s line piece table out at
   answer-is piece line′ table′ r i h d w n =
@@ -60,15 +61,16 @@ module _ (s : S.Session) (line : List ℕ) (table : List Float) (out : List ℕ)
   unfolding stepOf
   step-idle piece e =
       let n = not-now e in
+      let end : at ≡ at + 0 = omega arith in
       record {
-        answer = answer-is piece line table (record { session = s; used = 0; at = at }) (rw n refl) (rw n refl) (rw n refl) (omega arith) (rw n (let z : at ≡ at + 0 = omega arith in z));
+        answer = answer-is piece line table (record { session = s; used = 0; at = at }) (rw n refl) (rw n refl) (rw n refl) (omega arith) (rw n end);
         state = rw n refl;
         held = rw n refl;
         buffer = rw n (unchanged line 0);
         rest = rw n refl;
         within = omega arith;
         text = rw n (unchanged out at);
-        end = rw n (let z : at ≡ at + 0 = omega arith in z);
+        end = rw n end;
         fits = λ h. h;
       }
 
@@ -99,9 +101,9 @@ module _ (s : S.Session) (line : List ℕ) (table : List Float) (out : List ℕ)
     step-by table′ out′ c i h y =
         let r = ready-now e in
         let k = parts-by (stateIn s line table) found in
+        let r′ : D.Stepped = record { session = c .session; used = g .used; at = c .at } in
         record {
-          answer = answer-is piece line′ table′ (record { session = c .session; used = g .used; at = c .at }) (rw (r, gathered-is) i) (rw (r, gathered-is) h)
-              (rw (r, gathered-is) (sym (k .1))) (x .within) (rw (r, gathered-is) (y .end));
+          answer = answer-is piece line′ table′ r′ (rw (r, gathered-is) i) (rw (r, gathered-is) h) (rw (r, gathered-is) (sym (k .1))) (x .within) (rw (r, gathered-is) (y .end));
           state = rw (r, gathered-is) i;
           held = rw (r, gathered-is) h;
           buffer = rw (r, gathered-is) (buffer-is ∙ ap (overwritten line 0) (sym (k .0)));

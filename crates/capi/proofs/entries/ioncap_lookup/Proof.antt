@@ -13,8 +13,10 @@ ioncap-lookup-spec =
     (λ c κs. search needs) (λ c. search needs) (λ c κs. search needs) (λ c. search needs)
     (λ c. let d = c .before .before .before .before .before .before .before in
     let case = c .before .before .before .before .before .v .given .1 in
-    lookup-written _ _ _ _ (d .before .if1 .left) (d .gain-lookup-in-bytes .result) (d .gain-lookup-in-bytes .ensures .1) _ _ (rw case) (rw case (c .before .before .write-answer .ensures)))
+    let found = d .gain-lookup-in-bytes in
+    lookup-written _ _ _ _ (d .before .if1 .left) (found .result) (found .ensures .1) _ _ (rw case) (rw case (c .before .before .write-answer .ensures)))
     (λ c. search needs)
     (λ c. let d = c .before .before .before .before .before .before .before in
     let case = c .before .before .before .before .before .number .given .1 in
-    lookup-written _ _ _ _ (d .before .if1 .left) (d .gain-lookup-in-bytes .result) (d .gain-lookup-in-bytes .ensures .1) _ _ (rw case) (rw case (c .before .before .write-answer2 .ensures))))
+    let found = d .gain-lookup-in-bytes in
+    lookup-written _ _ _ _ (d .before .if1 .left) (found .result) (found .ensures .1) _ _ (rw case) (rw case (c .before .before .write-answer2 .ensures))))

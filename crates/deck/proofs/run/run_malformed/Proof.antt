@@ -10,7 +10,11 @@ use Rattle.deck.proofs.run.run_malformed.Statement.{statement}
 use Rattle.deck.proofs.run.run_malformed.Tie as tie
 
 returns : tie.Need-returns
-returns c = answered _ _ _ _ (entry-malformed theAntenna theLaws countLimit _ _ _ _ _ (c .before .before .before .before .before .malformed-refusal .ensures) (c .before .before .before .clear-refused .ensures) (ap stateOf (c .refused-deck .ensures) ∙ within _ _ (λ ne. room-malformed theAntenna theLaws countLimit _ _ _ (c .before .before .before .before .before .malformed-refusal .ensures) ne)))
+returns c =
+    let verdict = c .before .before .before .before .before .malformed-refusal .ensures in
+    let room = room-malformed theAntenna theLaws countLimit _ _ _ verdict in
+    let deck = ap stateOf (c .refused-deck .ensures) ∙ within _ _ (λ ne. room ne) in
+    answered _ _ _ _ (entry-malformed theAntenna theLaws countLimit _ _ _ _ _ verdict (c .before .before .before .clear-refused .ensures) deck)
 
 pub run-malformed-spec : {M : Type 1} → statement M
 run-malformed-spec =

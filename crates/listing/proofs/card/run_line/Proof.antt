@@ -4,10 +4,14 @@ use Rattle.listing.proofs.card.run_line.Statement.{statement}
 use Rattle.listing.proofs.card.run_line.Tie as tie
 
 returns : tie.Need-returns
-returns c = line-run _ (c .before .before .before .before .before .before .before .args .line) _ _ _ _ _ (c .before .before .before .before .before .before .before .pre) (c .before .before .before .before .if1 .taken) (c .before .before .run-card .ensures .0)
+returns c =
+    let start = c .before .before .before .before .before .before .before in
+    line-run _ (start .args .line) _ _ _ _ _ (start .pre) (c .before .before .before .before .if1 .taken) (c .before .before .run-card .ensures .0)
 
 returns-2 : tie.Need-returns-2
-returns-2 c = line-run _ (c .before .before .before .before .before .before .before .args .line) _ _ _ _ _ (c .before .before .before .before .before .before .before .pre) (c .before .before .before .before .if1 .left) (c .before .before .run-malformed .ensures .0)
+returns-2 c =
+    let start = c .before .before .before .before .before .before .before in
+    line-run _ (start .args .line) _ _ _ _ _ (start .pre) (c .before .before .before .before .if1 .left) (c .before .before .run-malformed .ensures .0)
 
 pub run-line-spec : {M : Type 1} → statement M
 run-line-spec =

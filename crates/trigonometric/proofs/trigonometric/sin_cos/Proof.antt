@@ -8,7 +8,8 @@ use Rattle.trigonometric.proofs.trigonometric.sin_cos.Statement.{statem
 use Rattle.trigonometric.proofs.trigonometric.sin_cos.Tie as tie
 
 -- two fields are the whole answer
-whole-pair : (x : Float) (r : SineCosine) → r .sine ≡ sine x → r .cosine ≡ cosine x → (r .sine ≡ sine x) × (r .cosine ≡ cosine x) × (r ≡ sineCosineOf x)
+whole-pair : (x : Float) (r : SineCosine) → r .sine ≡ sine x → r .cosine ≡ cosine x
+    → (r .sine ≡ sine x) × (r .cosine ≡ cosine x) × (r ≡ sineCosineOf x)
 whole-pair x r s c = (s, c, rw (← s, ← c))
 
 returns : tie.Need-returns
@@ -19,7 +20,9 @@ returns c =
     let i = sym (k .before .before .in-range .ensures) ∙ k .before .if1 .taken in
     let s = c .before .before .before .sine-part .ensures in
     let p = c .before .before .cosine-part .ensures in
-    whole-pair _ _ (in-range-is sineAt _ _ _ _ _ _ i (d .0) (d .1) s p (c .before .sine-at .ensures)) (in-range-is cosineAt _ _ _ _ _ _ i (d .0) (d .1) s p (c .cosine-at .ensures))
+    let sine-is = in-range-is sineAt _ _ _ _ _ _ i (d .0) (d .1) s p (c .before .sine-at .ensures) in
+    let cosine-is = in-range-is cosineAt _ _ _ _ _ _ i (d .0) (d .1) s p (c .cosine-at .ensures) in
+    whole-pair _ _ sine-is cosine-is
 
 returns-2 : tie.Need-returns-2
 unfolding sine cosine
