@@ -28,8 +28,8 @@ fn places(list: &str) -> Vec<Places> {
             ("t ", vec![number(1)]),
         ],
         "output" => vec![
-            ("i", vec![32]),
-            ("f", vec![32]),
+            ("i- 01", vec![32]),
+            ("f- 07", vec![32]),
             ("hw", vec![1, 30]),
             ("nw", vec![1, 30]),
             ("dw", vec![1, 13]),
