@@ -1,6 +1,7 @@
 //! Decks for `gainlist`: random cards, damaged lines, and the list `gainlist`.
 //! README.md says what stands in them.
 
+use crate::gainlist::LINE;
 use crate::splitmix::SplitMix64;
 use std::io::{self, Write};
 
@@ -224,6 +225,7 @@ fn list() -> Vec<Vec<u8>> {
     list.extend(forms());
     list.extend(refusals());
     list.extend(lengths());
+    list.extend(all_rows(list.iter().map(|line| line.len() + 1).sum()));
     list.extend(malformed());
     // The height is carried past the malformed lines, then is 1.
     list.push(line(&short_monopole(7)));
@@ -365,6 +367,25 @@ fn lengths() -> Vec<Vec<u8>> {
         vec![b' '; 119],
         card,
     ]
+}
+
+/// Random cards with all rows, the last of them across the end of the port's
+/// first read; `before` bytes come before them. Their text fills what the port
+/// writes at once several times.
+fn all_rows(before: usize) -> Vec<Vec<u8>> {
+    const READ: usize = 65_536;
+    let mut random = SplitMix64::new(SEED);
+    let mut list = Vec::new();
+    let mut bytes = before;
+    while bytes < READ {
+        let mut card = random_card(&mut random);
+        (card.whole[FIRST], card.whole[LAST]) = (1, 30);
+        list.push(line(&card));
+        bytes += LINE + 1;
+    }
+    let in_next_read = bytes - READ;
+    assert!((1..LINE).contains(&in_next_read), "no card's line lies across");
+    list
 }
 
 /// A damage in each field, of a type that would be refused too, then each kind

@@ -18,6 +18,7 @@ pub mod lists_parameters;
 pub mod lists_rhombics;
 pub mod lists_slopes;
 pub mod lists_verticals;
+pub mod lists_wrong;
 pub mod splitmix;
 pub mod standins;
 

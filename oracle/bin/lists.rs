@@ -9,6 +9,7 @@ use oracle::lists_gains;
 use oracle::lists_integrals;
 use oracle::lists_output;
 use oracle::lists_parameters;
+use oracle::lists_wrong;
 use oracle::splitmix::SplitMix64;
 use std::f64::consts::FRAC_PI_2;
 use std::io::{self, BufWriter, Write};
@@ -25,19 +26,30 @@ fn main() {
     let [name] = words.as_slice() else {
         stop("usage: lists NAME");
     };
-    let written = match name.as_str() {
-        "elementary" => elementary(&mut BufWriter::new(io::stdout().lock())),
-        "antenna" => lists_antenna::write(&mut BufWriter::new(io::stdout().lock())),
-        "deck" => lists_deck::write(&mut BufWriter::new(io::stdout().lock())),
-        "gainlist" => gainlist_decks::write_list(&mut BufWriter::new(io::stdout().lock())),
-        "gains" => lists_gains::write(&mut BufWriter::new(io::stdout().lock())),
-        "integrals" => lists_integrals::write(&mut BufWriter::new(io::stdout().lock())),
-        "output" => lists_output::write(&mut BufWriter::new(io::stdout().lock())),
-        "parameters" => lists_parameters::write(&mut BufWriter::new(io::stdout().lock())),
-        _ => stop("lists: README.md names the lists"),
+    let out = &mut BufWriter::new(io::stdout().lock());
+    let written = match name.strip_prefix("wrong_") {
+        None => write(out, name),
+        Some(list) => {
+            let mut lines = Vec::new();
+            write(&mut lines, list).and_then(|()| lists_wrong::write(out, list, &lines))
+        }
     };
     if let Err(error) = written {
         stop(&format!("lists: {error}"));
+    }
+}
+
+fn write(out: &mut impl Write, name: &str) -> io::Result<()> {
+    match name {
+        "elementary" => elementary(out),
+        "antenna" => lists_antenna::write(out),
+        "deck" => lists_deck::write(out),
+        "gainlist" => gainlist_decks::write_list(out),
+        "gains" => lists_gains::write(out),
+        "integrals" => lists_integrals::write(out),
+        "output" => lists_output::write(out),
+        "parameters" => lists_parameters::write(out),
+        _ => stop("lists: README.md names the lists"),
     }
 }
 

@@ -105,6 +105,7 @@ fn turn(state: State, line: &mut [u8], input: &mut [u8], table: &mut [f32], out:
     listed
 }
 
+// A program here ends with status 0; the script ./gainlist ends with 1 where this was written.
 fn report_failure() {
     io::write_all(STDERR_FILENO, b"gainlist: a read or write failed\n");
 }

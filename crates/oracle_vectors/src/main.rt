@@ -100,4 +100,12 @@ fn main() {
     replay_file(List::Gains, b"gains", 158);
     replay_file(List::Antenna, b"antenna", 92);
     replay_file(List::Deck, b"deck", MOST_BYTES);
+    // Every line of these is wrong in one place.
+    replay_file(List::Elementary, b"wrong_elementary", 21);
+    replay_file(List::Integrals, b"wrong_integrals", 30);
+    replay_file(List::Parameters, b"wrong_parameters", 272);
+    replay_file(List::Output, b"wrong_output", 57);
+    replay_file(List::Gains, b"wrong_gains", 158);
+    replay_file(List::Antenna, b"wrong_antenna", 92);
+    replay_file(List::Deck, b"wrong_deck", MOST_BYTES);
 }
