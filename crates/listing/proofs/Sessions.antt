@@ -103,7 +103,9 @@ module _ (s : S.Session) (line : List ℕ) (table : List Float) (out : List ℕ)
         let k = parts-by (stateIn s line table) found in
         let r′ : D.Stepped = record { session = c .session; used = g .used; at = c .at } in
         record {
-          answer = answer-is piece line′ table′ r′ (rw (r, gathered-is) i) (rw (r, gathered-is) h) (rw (r, gathered-is) (sym (k .1))) (x .within) (rw (r, gathered-is) (y .end));
+          answer =
+              answer-is piece line′ table′ r′ (rw (r, gathered-is) i) (rw (r, gathered-is) h)
+              (rw (r, gathered-is) (sym (k .1))) (x .within) (rw (r, gathered-is) (y .end));
           state = rw (r, gathered-is) i;
           held = rw (r, gathered-is) h;
           buffer = rw (r, gathered-is) (buffer-is ∙ ap (overwritten line 0) (sym (k .0)));

@@ -19,7 +19,8 @@ use Rattle.listing.specs.declared.session.Session as S
 use Rattle.listing.specs.Lines.{linesOf, onFirst}
 use Rattle.listing.specs.Text.{headingText}
 use Rattle.listing.specs.Listing.{lineIn, typeOf, rowsBy, entryOf, cardText, textsOf, listing}
-use Rattle.listing.specs.Session.{State, stateIn, startOf, isReady, grown, Gathered, gathered, counted, lineText, afterLine, stepBy, stepOf, endBy, lastText, counts, finishText, ended, joined, remaining}
+use Rattle.listing.specs.Session.{State, stateIn, startOf, isReady, grown, Gathered, gathered, counted, lineText, afterLine}
+use Rattle.listing.specs.Session.{stepBy, stepOf, endBy, lastText, counts, finishText, ended, joined, remaining}
 use Rattle.listing.specs.Appended.{overwritten}
 use Rattle.listing.specs.Calls.{part, CallsDone, finished, stepped}
 use Rattle.listing.proofs.Cards.{heading-beyond}
@@ -178,7 +179,8 @@ remaining-calls (stepped s line line′ piece rest table table′ out out′ at 
     ∙ sym (step-lists b before piece rest)
 
 -- from the start on, the texts of all calls, one after another, are the listing of all bytes
-pub calls-list : (s : S.Session) (line : List ℕ) (table : List Float) (bytes text : List ℕ) → s ≡ startOf → CallsDone s line table bytes text → text ≡ listing bytes
+pub calls-list : (s : S.Session) (line : List ℕ) (table : List Float) (bytes text : List ℕ)
+    → s ≡ startOf → CallsDone s line table bytes text → text ≡ listing bytes
 calls-list s line table bytes text start c =
     remaining-calls c
     ∙ start-lists (stateIn s line table) bytes (ap (λ (t : S.Session). stateOf (t .deck)) start) (ap (λ (t : S.Session). t .listed) start)

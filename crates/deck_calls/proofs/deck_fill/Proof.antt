@@ -35,9 +35,20 @@ returns-2 c =
     let a = c .before .before .before .before .before .before .before .before .before .args in
     let n = c .before .before .before .before .before .before .if1 .left in
     let model : m .result ≡ modelOf (a .model) = m .ensures ∙ ap modelOf (toZ-ofZ w32 (a .model) (search needs)) in
-    let given : Fields = record { kop = toZ w32 (ofZ w32 (a .kop)); first = toZ w32 (ofZ w32 (a .first)); last = toZ w32 (ofZ w32 (a .last)); toaz = a .toaz; slots = s .result; model = m .result } in
-    let same : given ≡ fieldsOf (a .kop) (a .first) (a .last) (a .toaz) (a .slots .now) (a .model) = rw (toZ-ofZ w32 (a .kop) (search needs), toZ-ofZ w32 (a .first) (search needs), toZ-ofZ w32 (a .last) (search needs), ← s .ensures, ← model) in
-    accepts given (fieldsOf (a .kop) (a .first) (a .last) (a .toaz) (a .slots .now) (a .model)) (a .height) (a .table .now) _ _ _ same n (c .before .before .run-card .ensures .0)
+    let given : Fields = record {
+      kop = toZ w32 (ofZ w32 (a .kop));
+      first = toZ w32 (ofZ w32 (a .first));
+      last = toZ w32 (ofZ w32 (a .last));
+      toaz = a .toaz;
+      slots = s .result;
+      model = m .result;
+    } in
+    let fields = fieldsOf (a .kop) (a .first) (a .last) (a .toaz) (a .slots .now) (a .model) in
+    let kop = toZ-ofZ w32 (a .kop) (search needs) in
+    let first = toZ-ofZ w32 (a .first) (search needs) in
+    let last = toZ-ofZ w32 (a .last) (search needs) in
+    let same : given ≡ fields = rw (kop, first, last, ← s .ensures, ← model) in
+    accepts given fields (a .height) (a .table .now) _ _ _ same n (c .before .before .run-card .ensures .0)
 
 pub deck-fill-spec : {M : Type 1} → statement M
 deck-fill-spec =

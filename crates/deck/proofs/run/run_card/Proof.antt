@@ -37,7 +37,8 @@ returns-2 c =
 
 add-t19 : tie.Need-add-t19
 add-t19 c =
-    let none = sym (c .before .before .before .before .before .before .before .before .before .before .before .before .refusal-before-work .ensures) ∙ c .before .before .before .before .before .before .before .if1 .left in
+    let work = c .before .before .before .before .before in
+    let none = sym (work .before .before .before .before .before .before .before .refusal-before-work .ensures) ∙ work .before .before .if1 .left in
     let p = none-before-work theAntenna theLaws countLimit _ _ _ none in
     omega (arith, p .room)
 
