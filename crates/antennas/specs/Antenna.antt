@@ -1,11 +1,11 @@
 -- Document 01 section 8: what a card or a gain call says of its antenna. Definitions only.
 use lib.IntN.{ℤ}
 use lib.Ieee.{Float}
-use Rattle.parameters.specs.Length.{lengthOf, heightSlotOf}
-use Rattle.parameters.specs.declared.length.Length.{Length}
+use Rattle.lengths.specs.Length.{lengthOf, heightSlotOf}
+use Rattle.lengths.specs.declared.length.Length.{Length}
 use Rattle.parameters.specs.declared.model.Model.{Model}
 use Rattle.parameters.specs.declared.params.IoncapParams.{IoncapParams}
-use Rattle.reflection.specs.Angles.{azimuthOf}
+use Rattle.angles.specs.Angles.{azimuthOf}
 use Rattle.antennas.specs.declared.antenna.Antenna.{Antenna}
 
 -- from the leg and the height as they are read

@@ -1,10 +1,10 @@
 // What a card or a gain call says of its antenna.
 ghost use mathlib.Core.Path.{_≡_};
 ghost use Rattle.antennas.specs.Antenna.{antennaOf, antennaWith};
+use angles::Azimuth;
+use lengths::Length;
 use parameters::IoncapParams;
-use parameters::Length;
 use parameters::Model;
-use reflection::Azimuth;
 
 // The leg and the height by kind, read from the parameters' `anl` and `anh`. Type 2's `anh` stays a
 // plain gain.
@@ -28,7 +28,7 @@ pub fn antenna_with(
 ) -> Antenna
     ensures { λ r. ⌜ r ≡ antennaWith kop toaz params leg height model ⌝ }
 {
-    let azimuth = reflection::azimuth_of(toaz);
+    let azimuth = angles::azimuth_of(toaz);
     Antenna {
         kop,
         params,
@@ -42,7 +42,7 @@ pub fn antenna_with(
 pub fn antenna_of(kop: i32, toaz: f32, params: IoncapParams, model: Model) -> Antenna
     ensures { λ r. ⌜ r ≡ antennaOf kop toaz params model ⌝ }
 {
-    let leg = parameters::read_length(params.anl);
-    let height = parameters::read_height(kop, params.anh);
+    let leg = lengths::read_length(params.anl);
+    let height = lengths::read_height(kop, params.anh);
     antenna_with(kop, toaz, params, leg, height, model)
 }

@@ -11,7 +11,7 @@ use lib.Ieee.{Float, nan}
 use Rattle.field_reading.specs.declared.reading.Integer.the-variants.{Number, Malformed}
 use Rattle.field_reading.specs.Integer.{integerNumber}
 use Rattle.field_reading.specs.Decimal.{decimalValue}
-use Rattle.deck.specs.declared.fields.Fields.{Fields}
+use Rattle.cards.specs.declared.fields.Fields.{Fields}
 use Rattle.card_line.specs.declared.line.Line.{Line}
 use Rattle.card_line.specs.Line.{integerAt, decimalAt, integersRead, fieldsOf, wellFormed, malformedLine, wellFormedLine, lineOf}
 use Rattle.card_line.specs.TenFields.{DecimalsDone}

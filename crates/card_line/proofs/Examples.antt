@@ -11,7 +11,7 @@ use Rattle.parameters.specs.declared.model.Model.the-variants.{Compatible}
 use Rattle.field_reading.specs.Digits.{spacesOf, readOn, digitsOf, unspaced, signedOf}
 use Rattle.field_reading.specs.Integer.{integer, integerOf}
 use Rattle.field_reading.specs.Decimal.{tenThousandths, pointed, decimalOf}
-use Rattle.deck.specs.declared.fields.Fields.{Fields}
+use Rattle.cards.specs.declared.fields.Fields.{Fields}
 use Rattle.card_line.specs.Line.{integersRead, decimalsRead, fieldsOf, wellFormed, malformedLine, wellFormedLine, lineOf}
 
 -- `     0.0000` with another digit for the first 0

@@ -12,7 +12,7 @@ use Rattle.field_reading.specs.declared.reading.Integer.{Integer}
 use Rattle.field_reading.specs.declared.reading.Decimal.{Decimal}
 use Rattle.field_reading.specs.Integer.{integerOf, integerNumber, integerValue}
 use Rattle.field_reading.specs.Decimal.{decimalOf, decimalNumber, decimalValue}
-use Rattle.deck.specs.declared.fields.Fields.{Fields}
+use Rattle.cards.specs.declared.fields.Fields.{Fields}
 use Rattle.card_line.specs.declared.line.Line.{Line}
 
 -- n columns from column a on, counted from 0

@@ -4,7 +4,7 @@ ghost use lib.Ieee.{nan};
 ghost use lib.ListN.{length, getD};
 ghost use Rattle.card_line.specs.Line.{fieldsOf, malformedLine, lineOf};
 ghost use Rattle.card_line.specs.TenFields.{DecimalsDone};
-use deck::Fields;
+use cards::Fields;
 use field_reading::Decimal;
 use field_reading::Integer;
 use parameters::Model;

@@ -5,10 +5,10 @@ use lib.Ieee.{Float}
 use Rattle.single.specs.Single.{_⊞_, _⊟_, _⊠_, num}
 use Rattle.elementary.specs.Trigonometric.{sine, cosine}
 use Rattle.parameters.specs.Params.{isType}
-use Rattle.reflection.specs.Angles.{rightAngle, azimuthOf, elevationOf}
+use Rattle.angles.specs.Angles.{rightAngle, azimuthOf, elevationOf}
 use Rattle.reflection.specs.Ground.{reflectOf}
-use Rattle.reflection.specs.declared.angles.Azimuth.{Azimuth}
-use Rattle.reflection.specs.declared.angles.Elevation.{Elevation}
+use Rattle.angles.specs.declared.angles.Azimuth.{Azimuth}
+use Rattle.angles.specs.declared.angles.Elevation.{Elevation}
 use Rattle.curtain.specs.Gain.{rainOf, sokOf}
 use Rattle.curtain.specs.Cell as Curtain
 use Rattle.curtain.specs.declared.card.CurtainCard.{CurtainCard}

@@ -1,12 +1,12 @@
 // A cell above the ground: `iongain2`, and what `iongain` makes of it for types 3 and 4.
 ghost use mathlib.Core.Path.{_≡_};
 ghost use Rattle.cells.specs.Cell.{powerCell, curtainCell, cellOf, zenithGain, blendOf, blendsWithZenith, cellGain};
+use angles::Azimuth;
+use angles::Elevation;
 use curtain::CurtainCard;
 use curtain::CurtainRow;
 use elementary::SineCosine;
 use patterns::Pattern;
-use reflection::Azimuth;
-use reflection::Elevation;
 use rows::Row;
 
 fn power_cell(row: Row, azimuth: Azimuth, e: Elevation) -> f32
@@ -68,8 +68,8 @@ pub fn zenith_gain(row: Row) -> f32
     ensures { λ r. ⌜ r ≡ zenithGain row ⌝ }
 {
     let SineCosine { sine, cosine } = elementary::sin_cos(1.570796);
-    let azimuth = reflection::azimuth_of(0.0);
-    let Elevation { t, q, r, s } = reflection::elevation_of(cosine, sine);
+    let azimuth = angles::azimuth_of(0.0);
+    let Elevation { t, q, r, s } = angles::elevation_of(cosine, sine);
     cell(row, azimuth, 1.570796, t, q, r, s)
 }
 

@@ -8,7 +8,7 @@ use Rattle.elementary.specs.Constants.{Constant, _is_}
 use Rattle.parameters.specs.Model.{asWritten, asMeant}
 use Rattle.integrals.specs.Series.{euler}
 use Rattle.integrals.specs.Rational.{millionths}
-use Rattle.reflection.specs.Angles.{pi, rightAngle}
+use Rattle.angles.specs.Angles.{pi, rightAngle}
 use Rattle.verticals.specs.Monopole.{rintw}
 use Rattle.curtain.specs.Floor.{pio2}
 use Rattle.finish.specs.Finish.{floor}
@@ -34,7 +34,7 @@ wholeConstants =
     ∷ (num 18000 1 is 0x468ca000)
     ∷ []
 
--- ioninit and lengths: section 2, and section 8's lengths (crate parameters)
+-- ioninit and lengths: section 2, and section 8's lengths (crates parameters, lengths)
 abbrev pub lengthConstants : List Constant
 lengthConstants =
     (num 25 100 is 0x3e800000)
@@ -70,7 +70,7 @@ integralConstants =
     ∷ (millionths 38102495 is 0x421868f4)
     ∷ []
 
--- section 4 (crates reflection, rhombics, interlaced, slopes, sloping_patterns); 0.017453293 is section 8's too
+-- section 4 (crates angles, reflection, rhombics, interlaced, slopes, sloping_patterns); 0.017453293 is section 8's too
 abbrev pub patternConstants : List Constant
 patternConstants =
     (pi is 0x40490fda)

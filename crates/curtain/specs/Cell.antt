@@ -2,8 +2,8 @@
 use mathlib.Core.Bool.{cond}
 use lib.Ieee.{Float}
 use Rattle.reflection.specs.Ground.{reflectOf}
-use Rattle.reflection.specs.declared.angles.Azimuth.{Azimuth}
-use Rattle.reflection.specs.declared.angles.Elevation.{Elevation}
+use Rattle.angles.specs.declared.angles.Azimuth.{Azimuth}
+use Rattle.angles.specs.declared.angles.Elevation.{Elevation}
 use Rattle.reflection.specs.declared.soil.Soil.{Soil}
 use Rattle.curtain.specs.Floor.{takesPattern}
 use Rattle.curtain.specs.Pattern.{gainOf}

@@ -8,7 +8,7 @@ use lib.Ieee.{Float, nan, neg}
 use Rattle.single.specs.Single.{_⊞_, _⊟_, _⊠_, num, whole}
 use Rattle.root.specs.Root.{root}
 use Rattle.elementary.specs.Trigonometric.{sine, cosine}
-use Rattle.reflection.specs.Angles.{pi}
+use Rattle.angles.specs.Angles.{pi}
 use Rattle.curtain.specs.declared.elements.Waves.{Waves}
 use Rattle.curtain.specs.declared.elements.Sums.{Sums}
 

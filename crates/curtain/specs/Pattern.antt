@@ -5,8 +5,8 @@ use Rattle.single.specs.Single.{_⊞_, _⊟_, _⊠_, _⊘_, num}
 use Rattle.root.specs.Root.{root}
 use Rattle.elementary.specs.Trigonometric.{sine, cosine}
 use Rattle.elementary.specs.Logarithm.{logarithm10}
-use Rattle.reflection.specs.declared.angles.Azimuth.{Azimuth}
-use Rattle.reflection.specs.declared.angles.Elevation.{Elevation}
+use Rattle.angles.specs.declared.angles.Azimuth.{Azimuth}
+use Rattle.angles.specs.declared.angles.Elevation.{Elevation}
 use Rattle.reflection.specs.declared.ground.Ground.{Ground}
 use Rattle.curtain.specs.Bays.{sxOf}
 use Rattle.curtain.specs.Elements.{atMostTen, wavesOf, fieldOf}

@@ -7,8 +7,8 @@ use lib.Ieee.{Float, nan, le}
 use Rattle.single.specs.Single.{_⊠_, _⊘_, num}
 use Rattle.elementary.specs.Basic.{absolute}
 use Rattle.elementary.specs.Trigonometric.{cosine}
-use Rattle.reflection.specs.Angles.{pi}
-use Rattle.reflection.specs.declared.angles.Azimuth.{Azimuth}
+use Rattle.angles.specs.Angles.{pi}
+use Rattle.angles.specs.declared.angles.Azimuth.{Azimuth}
 use Rattle.curtain.specs.declared.row.CurtainRow.{CurtainRow}
 
 -- dy, dz, dx: not above 0 in wavelengths, without their sign, else in metres

@@ -6,8 +6,8 @@ use crate::floor::takes_pattern;
 use crate::gain::CurtainGain;
 use crate::pattern::curtain_gain;
 use crate::row::CurtainRow;
-use reflection::Azimuth;
-use reflection::Elevation;
+use angles::Azimuth;
+use angles::Elevation;
 use reflection::Soil;
 
 // An elevation `delta` with its sine and cosine; the threshold is the model's. No reflection is

@@ -2,8 +2,8 @@
 ghost use mathlib.Core.Path.{_≡_};
 ghost use Prim.Native.Nat.{_≤_};
 ghost use Rattle.curtain.specs.Elements.{atMostTen, wavesOf, sumsOf, fieldOf};
+use angles::PI;
 use reflection::Ground;
-use reflection::PI;
 
 // CA and SA of the elements; the rest of the ten stay 0.
 pub(crate) struct Waves {

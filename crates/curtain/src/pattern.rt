@@ -9,8 +9,8 @@ use crate::elements::element_waves;
 use crate::elements::fields;
 use crate::gain::CurtainGain;
 use crate::row::CurtainRow;
-use reflection::Azimuth;
-use reflection::Elevation;
+use angles::Azimuth;
+use angles::Elevation;
 use reflection::Ground;
 
 // What both polarizations have in common.

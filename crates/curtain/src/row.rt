@@ -1,8 +1,8 @@
 // What the curtain takes from the MHz: its lengths and spacings in wavelengths.
 ghost use mathlib.Core.Path.{_≡_};
 ghost use Rattle.curtain.specs.Row.{spacingOf, rowOf};
-use reflection::Azimuth;
-use reflection::PI;
+use angles::Azimuth;
+use angles::PI;
 
 // `cfac` is the leg's cosine, `facsb` and `facdx` are what stays of two products when the
 // elevation's cosine is taken out of them, `fac3` is the bays' phase.

@@ -13,8 +13,8 @@ use Rattle.independence.specs.Deck.{Deck}
 use Rattle.independence.specs.Contracts.{refusalBeforeWork, malformedRefusal}
 use Rattle.independence.proofs.Calls.{found-last, deckThen, deck-then}
 use Rattle.deck_state.specs.DeckState.{countLimit, deckRefusal}
-use Rattle.deck.specs.declared.fields.Fields.{Fields}
-use Rattle.deck.specs.Fields.{fieldsRefusal}
+use Rattle.cards.specs.declared.fields.Fields.{Fields}
+use Rattle.cards.specs.Fields.{fieldsRefusal}
 use Rattle.deck.specs.Antenna.{theAntenna}
 
 first : (a b g : Bool) (r : ℕ) → (deckThen a b g 0 ≢ 0 → deckThen a b g r ≡ deckThen a b g 0) × (deckThen a b g 0 ≡ 0 → deckThen a b g r ≡ r)

@@ -14,10 +14,10 @@ use mir.ValLaws.{toZ-ofZ}
 use Rattle.antennas.specs.declared.antenna.Antenna.{Antenna}
 use Rattle.independence.specs.Contracts.{RowDone, CardDone}
 use Rattle.independence.proofs.Loops.{CardInv, card-step, card-stops, card-ends}
-use Rattle.deck.specs.declared.card.Card.{Card}
-use Rattle.deck.specs.declared.fields.Fields.{Fields}
-use Rattle.deck.specs.Fields.{fieldsRefusal}
-use Rattle.deck.specs.Card.{cardOf, antennaFor}
+use Rattle.cards.specs.declared.card.Card.{Card}
+use Rattle.cards.specs.declared.fields.Fields.{Fields}
+use Rattle.cards.specs.Fields.{fieldsRefusal}
+use Rattle.cards.specs.Card.{cardOf, antennaFor}
 use Rattle.deck.specs.Row.{RowOfFields}
 use Rattle.deck.specs.Antenna.{theAntenna}
 use Rattle.deck.proofs.Passes.{in-range}

@@ -6,7 +6,7 @@ use Prim.Native.Nat.{ℕ, suc, _<_}
 use lib.Ieee.{Float, le}
 use lib.Ieee.Bits.{is-true, is-false}
 use Rattle.single.specs.Single.{num, whole}
-use Rattle.reflection.specs.Angles.{waveOf}
+use Rattle.angles.specs.Angles.{waveOf}
 use Rattle.rows.specs.Row.{heightFor, rowOf}
 use Rattle.rows.specs.declared.row.Row.{Row}
 use Rattle.rows.specs.declared.row.RowAnswer.{RowAnswer}
@@ -18,9 +18,10 @@ use Rattle.gain_core.specs.Core.{zenithGainFor, aboveFrom, aboveGround, atGroun
 use Rattle.gain_core.proofs.Laws.{above, below}
 use Rattle.independence.specs.Antenna.{Answer}
 use Rattle.deck.proofs.Degrees.{elevation-not-at-ground, elevation-ground}
-use Rattle.deck.specs.declared.card.Card.{Card}
+use Rattle.cards.specs.declared.card.Card.{Card}
 use Rattle.deck.specs.Columns.{elevationAt, columnAt}
-use Rattle.deck.specs.Card.{antennaFor, answerOf, callOf}
+use Rattle.cards.specs.Card.{antennaFor}
+use Rattle.deck.specs.Call.{answerOf, callOf}
 use Rattle.deck.specs.Row.{groundCell, cellAt}
 
 module _ (c : Card) (m : ℕ) where

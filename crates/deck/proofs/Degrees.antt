@@ -10,7 +10,7 @@ use lib.Ieee.Bits.{is-false}
 use lib.Ieee.Fits.{and-l, and-r}
 use Rattle.single.specs.Single.{num, whole}
 use Rattle.elementary.specs.Basic.{absolute}
-use Rattle.reflection.specs.Angles.{radiansOf}
+use Rattle.angles.specs.Angles.{radiansOf}
 use Rattle.limits.specs.Tests.{outside}
 use Rattle.deck.specs.Columns.{elevationAt}
 

@@ -10,7 +10,7 @@ use lib.ListN.{length, set, getD, length-set}
 use lib.Seq.{getD-set-same, getD-set-other}
 use lib.Ieee.{Float, nan}
 use Rattle.elementary.specs.Trigonometric.{sine, cosine}
-use Rattle.reflection.specs.Angles.{elevationOf}
+use Rattle.angles.specs.Angles.{elevationOf}
 use Rattle.deck.specs.Columns.{elevationAt, columnAt, ColumnsAre}
 
 -- one more stored, of any function

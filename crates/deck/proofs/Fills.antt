@@ -10,7 +10,7 @@ use lib.ListN.{set}
 use lib.Ieee.{Float}
 use Rattle.single.specs.Single.{whole}
 use Rattle.integrals.specs.declared.entry.Turns.{Turns}
-use Rattle.reflection.specs.declared.angles.Elevation.{Elevation}
+use Rattle.angles.specs.declared.angles.Elevation.{Elevation}
 use Rattle.antennas.specs.declared.antenna.Antenna.{Antenna}
 use Rattle.rows.specs.Row.{rowOf}
 use Rattle.rows.specs.declared.row.Row.{Row}
@@ -21,9 +21,9 @@ use Rattle.independence.specs.Antenna.{Answer}
 use Rattle.independence.specs.Laws.{Fills}
 use Rattle.independence.specs.Contracts.{RowDone}
 use Rattle.independence.proofs.Loops.{GainsStored, row-refusal, row-start, row-step, row-stops, row-ends}
-use Rattle.deck.specs.declared.fields.Fields.{Fields}
+use Rattle.cards.specs.declared.fields.Fields.{Fields}
 use Rattle.deck.specs.Columns.{columnAt}
-use Rattle.deck.specs.Card.{cardOf, antennaFor}
+use Rattle.cards.specs.Card.{cardOf, antennaFor}
 use Rattle.deck.specs.Row.{groundCell, cellAt, storedAbove, RowOfFields}
 use Rattle.deck.specs.Antenna.{theAntenna}
 use Rattle.deck.proofs.Cells.{above-unsettled, ground-unsettled, above-settled, ground-settled, row-height}

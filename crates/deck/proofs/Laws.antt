@@ -12,7 +12,7 @@ use lib.Ieee.Bits.{is-true, is-false}
 use lib.Ieee.Scale.{finite}
 use Rattle.single.specs.Single.{_⊞_, num, whole}
 use Rattle.parameters.specs.Params.{isType}
-use Rattle.reflection.specs.Angles.{waveOf}
+use Rattle.angles.specs.Angles.{waveOf}
 use Rattle.finish.specs.Finish.{floor, efficiencyOf}
 use Rattle.finish.proofs.Laws.{efficiency-same}
 use Rattle.rows.specs.Row.{heightFor}
@@ -25,10 +25,11 @@ use Rattle.gain_core.proofs.Laws.{OfCall, AboveFloor, left-above, ground-value,
 use Rattle.independence.specs.Antenna.{Answer, floorPlus, carriesHeight, hasSecondCall, heightLeft}
 use Rattle.independence.specs.Laws.{Fills, Laws}
 use Rattle.deck.proofs.Degrees.{mhz-in-range}
-use Rattle.deck.specs.declared.fields.Fields.{Fields}
-use Rattle.deck.specs.Fields.{fieldsRefusal}
+use Rattle.cards.specs.declared.fields.Fields.{Fields}
+use Rattle.cards.specs.Fields.{fieldsRefusal}
 use Rattle.deck.specs.Columns.{elevationAt, columnAt}
-use Rattle.deck.specs.Card.{cardOf, antennaFor, answerOf, callOf}
+use Rattle.cards.specs.Card.{cardOf, antennaFor}
+use Rattle.deck.specs.Call.{answerOf, callOf}
 use Rattle.deck.specs.Antenna.{theAntenna}
 use Rattle.deck.proofs.Passes.{is-type, in-range, fields-number, params-within}
 use Rattle.deck.proofs.Cells.{call-above, call-ground}

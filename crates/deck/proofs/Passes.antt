@@ -20,8 +20,8 @@ use Rattle.limits.specs.Refusals.{firstRefusal}
 use Rattle.limits.specs.Tests.{isIoncapType, outside, anyOutside, tooManyBays, inputRefusal}
 use Rattle.table.specs.Range.{isRange}
 use Rattle.independence.proofs.Verdicts.{passed}
-use Rattle.deck.specs.declared.fields.Fields.{Fields}
-use Rattle.deck.specs.Fields.{fieldsOutside, paramsFor, fieldsRefusal}
+use Rattle.cards.specs.declared.fields.Fields.{Fields}
+use Rattle.cards.specs.Fields.{fieldsOutside, paramsFor, fieldsRefusal}
 
 pub record Passed (f : Fields) : Type 0 where
   pub type : isIoncapType (f .kop) ≡ true

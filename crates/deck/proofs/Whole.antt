@@ -18,7 +18,7 @@ use Rattle.independence.proofs.Verdicts.{Passes}
 use Rattle.independence.proofs.Theorem as D
 use Rattle.independence.proofs.Calls as C
 use Rattle.independence.proofs.Consequences as Q
-use Rattle.deck.specs.declared.fields.Fields.{Fields}
+use Rattle.cards.specs.declared.fields.Fields.{Fields}
 use Rattle.deck.specs.Antenna.{theAntenna}
 use Rattle.deck.specs.Run.{countLimit}
 use Rattle.deck.proofs.Laws.{theLaws}

@@ -5,8 +5,8 @@ use Prim.Native.Nat.{ℕ, _<_}
 use lib.ListN.{getD, length}
 use lib.Ieee.{Float, nan}
 use Rattle.elementary.specs.Trigonometric.{sine, cosine}
-use Rattle.reflection.specs.Angles.{radiansOf, elevationOf}
-use Rattle.reflection.specs.declared.angles.Elevation.{Elevation}
+use Rattle.angles.specs.Angles.{radiansOf, elevationOf}
+use Rattle.angles.specs.declared.angles.Elevation.{Elevation}
 use Rattle.single.specs.Single.{whole}
 
 -- "degrees times 0.017453293 is the elevation"

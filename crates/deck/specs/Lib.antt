@@ -1,6 +1,5 @@
-pub mod Fields
-pub mod Card
 pub mod Columns
+pub mod Call
 pub mod Antenna
 pub mod Row
 pub mod Run

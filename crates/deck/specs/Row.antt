@@ -6,8 +6,8 @@ use Prim.Native.Nat.{ℕ, zero, suc}
 use lib.IntN.{ℤ}
 use lib.ListN.{set}
 use lib.Ieee.{Float}
-use Rattle.reflection.specs.declared.angles.Azimuth.{Azimuth}
-use Rattle.reflection.specs.declared.angles.Elevation.{Elevation}
+use Rattle.angles.specs.declared.angles.Azimuth.{Azimuth}
+use Rattle.angles.specs.declared.angles.Elevation.{Elevation}
 use Rattle.finish.specs.Finish.{groundOf}
 use Rattle.antennas.specs.declared.antenna.Antenna.{Antenna}
 use Rattle.rows.specs.declared.row.Row.{Row}
@@ -15,9 +15,9 @@ use Rattle.cells.specs.Cell.{blendOf, blendsWithZenith, cellGain}
 use Rattle.table.specs.Table.{gainAt}
 use Rattle.independence.specs.Laws.{Fills}
 use Rattle.independence.specs.Contracts.{RowDone}
-use Rattle.deck.specs.declared.fields.Fields.{Fields}
+use Rattle.cards.specs.declared.fields.Fields.{Fields}
 use Rattle.deck.specs.Columns.{elevationAt, columnAt}
-use Rattle.deck.specs.Card.{cardOf, antennaFor}
+use Rattle.cards.specs.Card.{cardOf, antennaFor}
 use Rattle.deck.specs.Antenna.{theAntenna}
 
 -- the ground gain, given the row's gain at the zenith

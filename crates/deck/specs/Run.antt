@@ -5,7 +5,7 @@ use Rattle.independence.specs.Deck.{Entry, card, malformed, outcomeOn, deckAfte
 pub use Rattle.deck_state.specs.DeckState.{countLimit, deckOf, stateOf}
 use Rattle.deck_state.specs.declared.Deck.{Deck}
 use Rattle.deck.specs.declared.run.CardAnswer.{CardAnswer}
-use Rattle.deck.specs.declared.fields.Fields.{Fields}
+use Rattle.cards.specs.declared.fields.Fields.{Fields}
 use Rattle.deck.specs.Antenna.{theAntenna}
 
 abbrev pub cardEntry : Fields → List Float → Entry theAntenna

@@ -20,7 +20,7 @@ pub(crate) fn all_columns() -> Columns
     let mut d: usize = 0;
     while d < COLUMNS {
         let degrees = d as u16;
-        let delta = reflection::radians_of(degrees as f32);
+        let delta = angles::radians_of(degrees as f32);
         let SineCosine { sine, cosine } = elementary::sin_cos(delta);
         deltas[d] = delta;
         cosines[d] = cosine;

@@ -3,15 +3,15 @@ ghost use mathlib.Core.Path.{_≡_};
 ghost use lib.ListN.{length};
 ghost use Rattle.table.specs.Table.{tableLength};
 ghost use Rattle.independence.specs.Contracts.{CardDone};
-ghost use Rattle.deck.specs.Fields.{fieldsRefusal};
+ghost use Rattle.cards.specs.Fields.{fieldsRefusal};
 ghost use Rattle.deck.specs.Antenna.{theAntenna};
-use crate::card::card_antenna;
-use crate::card::read_card;
 use crate::columns::Columns;
 use crate::columns::all_columns;
-use crate::fields::Fields;
 use crate::row::Filled;
 use crate::row::fill_row;
+use cards::Fields;
+use cards::card_antenna;
+use cards::read_card;
 
 pub(crate) fn fill_card(fields: Fields, height: f32, table: &mut [f32]) -> Filled
     requires { ⌜ (length (now table) ≡ tableLength) × (fieldsRefusal fields ≡ 0) ⌝ }

@@ -5,9 +5,9 @@ ghost use lib.ListN.{length};
 ghost use Rattle.table.specs.Table.{rowCount, columnCount, tableLength};
 ghost use Rattle.deck.specs.Columns.{ColumnsAre};
 ghost use Rattle.deck.specs.Row.{groundCell, cellAt, storedAbove, RowOfFields};
+use angles::Azimuth;
+use angles::Elevation;
 use antennas::Antenna;
-use reflection::Azimuth;
-use reflection::Elevation;
 use rows::Row;
 use rows::RowAnswer;
 use table::COLUMNS;
@@ -47,7 +47,7 @@ fn fill_above(
     let base = (m - 1) * COLUMNS;
     let mut d: usize = 1;
     while d < COLUMNS {
-        let e = reflection::elevation_of(cosines[d], sines[d]);
+        let e = angles::elevation_of(cosines[d], sines[d]);
         table[base + d] = cells::cell_gain(row, zenith, azimuth, deltas[d], e);
         d += 1;
     }
@@ -74,7 +74,7 @@ pub(crate) fn fill_row(
         };
     };
     let zenith = gain_core::zenith_gain_for(row);
-    let e = reflection::elevation_of(cosines[0], sines[0]);
+    let e = angles::elevation_of(cosines[0], sines[0]);
     table[(m - 1) * COLUMNS] = ground_cell(antenna.kop, zenith, e, height);
     fill_above(
         row,

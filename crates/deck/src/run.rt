@@ -3,9 +3,9 @@ ghost use mathlib.Core.Path.{_≡_};
 ghost use Rattle.independence.specs.Contracts.{refusalBeforeWork, malformedRefusal, EntryDone};
 ghost use Rattle.deck.specs.Antenna.{theAntenna};
 ghost use Rattle.deck.specs.Run.{countLimit, stateOf, cardEntry, malformedEntry, answerOn};
-use crate::fields::Fields;
-use crate::fields::card_refusal;
 use crate::filling::fill_card;
+use cards::Fields;
+use cards::fields_refusal;
 use deck_state::Deck;
 use deck_state::deck_refusal;
 use deck_state::refused_deck;
@@ -27,7 +27,7 @@ fn refusal_before_work(deck: Deck, fields: Fields, table: &[f32]) -> u32
     if verdict != 0 {
         return verdict;
     }
-    card_refusal(fields)
+    fields_refusal(fields)
 }
 
 fn malformed_refusal(deck: Deck, table: &[f32]) -> u32

@@ -10,7 +10,7 @@ use Rattle.parameters.specs.Model.{modelOf}
 use Rattle.limits.specs.Tests.{lengthRefusal}
 use Rattle.table.specs.Table.{refusedTable}
 use Rattle.independence.specs.Deck.{Deck, Outcome, outcomeOn}
-use Rattle.deck.specs.declared.fields.Fields.{Fields}
+use Rattle.cards.specs.declared.fields.Fields.{Fields}
 use Rattle.deck.specs.Antenna.{theAntenna}
 use Rattle.deck.specs.Run.{countLimit, cardEntry}
 

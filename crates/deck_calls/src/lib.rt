@@ -2,8 +2,8 @@
 ghost use mathlib.Core.Path.{_≡_};
 ghost use lib.ListN.{length};
 ghost use Rattle.deck_calls.specs.Calls.{fieldsOf, fillNumber, filled};
+use cards::Fields;
 use deck::Deck;
-use deck::Fields;
 
 const SLOTS: usize = 20;
 

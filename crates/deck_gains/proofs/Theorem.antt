@@ -27,9 +27,10 @@ use Rattle.independence.specs.Contracts.{CallsDone}
 use Rattle.independence.proofs.Verdicts.{Passes}
 use Rattle.independence.proofs.Rules.{filled-cell, filled-efficiency, run-accepted}
 use Rattle.independence.proofs.Calls.{calls-run}
-use Rattle.deck.specs.declared.fields.Fields.{Fields}
+use Rattle.cards.specs.declared.fields.Fields.{Fields}
 use Rattle.deck.specs.Columns.{columnAt}
-use Rattle.deck.specs.Card.{cardOf, antennaFor, answerOf, callOf}
+use Rattle.cards.specs.Card.{cardOf, antennaFor}
+use Rattle.deck.specs.Call.{answerOf, callOf}
 use Rattle.deck.specs.Antenna.{theAntenna}
 use Rattle.deck.specs.Run.{countLimit}
 use Rattle.deck.proofs.Degrees.{elevation-within, mhz-within}

@@ -11,8 +11,8 @@ use Rattle.ioncap.specs.declared.gain.GainCall.{GainCall}
 use Rattle.table.specs.Table.{columnCount, gainAt, efficiencyAt}
 use Rattle.independence.specs.Deck.{Entry, Outcome}
 use Rattle.independence.specs.Demand3.{outcomeAt, cell, groundAt, Accepted, carriedAtRow, carried}
-use Rattle.deck.specs.declared.fields.Fields.{Fields}
-use Rattle.deck.specs.Fields.{paramsFor}
+use Rattle.cards.specs.declared.fields.Fields.{Fields}
+use Rattle.cards.specs.Fields.{paramsFor}
 use Rattle.deck.specs.Columns.{elevationAt}
 use Rattle.deck.specs.Antenna.{theAntenna}
 

@@ -3,8 +3,8 @@ use lib.Ieee.{Float}
 use Rattle.single.specs.Single.{_⊞_, _⊟_, _⊠_, _⊘_, num}
 use Rattle.elementary.specs.Trigonometric.{cosine}
 use Rattle.reflection.specs.Ground.{imagePower}
-use Rattle.reflection.specs.declared.angles.Azimuth.{Azimuth}
-use Rattle.reflection.specs.declared.angles.Elevation.{Elevation}
+use Rattle.angles.specs.declared.angles.Azimuth.{Azimuth}
+use Rattle.angles.specs.declared.angles.Elevation.{Elevation}
 use Rattle.reflection.specs.declared.ground.Ground.{Ground}
 use Rattle.dipoles.specs.declared.row.Dipole.{Dipole}
 use Rattle.dipoles.specs.Row.{sin2kl}

@@ -2,8 +2,8 @@
 ghost use mathlib.Core.Path.{_≡_};
 ghost use Rattle.dipoles.specs.Pattern.{interference, dipoleRain};
 use crate::row::Dipole;
-use reflection::Azimuth;
-use reflection::Elevation;
+use angles::Azimuth;
+use angles::Elevation;
 use reflection::Ground;
 
 // `xkv` or `xkh`: the wave and its reflection, of magnitude `c` and phase `psi`.

@@ -15,8 +15,8 @@ use Rattle.single.proofs.Value.{round-to}
 use Rattle.elementary.specs.Basic.{cutToward}
 use Rattle.elementary.specs.Trigonometric.{sine, cosine, inRange, turns, rest, reduced, sinePart, cosinePart, sineAt}
 use Rattle.parameters.specs.Params.{isType}
-use Rattle.reflection.specs.Angles.{elevationOf}
-use Rattle.reflection.specs.declared.angles.Elevation.{Elevation}
+use Rattle.angles.specs.Angles.{elevationOf}
+use Rattle.angles.specs.declared.angles.Elevation.{Elevation}
 use Rattle.integrals.specs.declared.entry.Turns.{Turns}
 use Rattle.finish.specs.Finish.{floor, efficiencyOf, floored, groundOf}
 use Rattle.antennas.specs.declared.antenna.Antenna.{Antenna}

@@ -7,9 +7,9 @@ use lib.IntN.{ℤ, pos, negsuc}
 use lib.Ieee.{Float, nan, lt, le}
 use Rattle.single.specs.Single.{_⊞_, num}
 use Rattle.parameters.specs.Params.{isType}
-use Rattle.reflection.specs.Angles.{waveOf}
-use Rattle.reflection.specs.declared.angles.Elevation.{Elevation}
-use Rattle.reflection.specs.declared.angles.Azimuth.{Azimuth}
+use Rattle.angles.specs.Angles.{waveOf}
+use Rattle.angles.specs.declared.angles.Elevation.{Elevation}
+use Rattle.angles.specs.declared.angles.Azimuth.{Azimuth}
 use Rattle.integrals.specs.declared.entry.Turns.{Turns}
 use Rattle.finish.specs.Finish.{floor, efficiencyOf, groundOf}
 use Rattle.finish.proofs.Laws.{ground-gain, ground-same, floor-rule}

@@ -8,8 +8,8 @@ use Rattle.single.specs.Single.{num}
 use Rattle.single.specs.Answer.{IsAnswer}
 use Rattle.integrals.specs.Settled.{settledNumber}
 use Rattle.single.proofs.Answer.{answers}
-use Rattle.reflection.specs.Angles.{waveOf}
-use Rattle.reflection.specs.declared.angles.Elevation.{Elevation}
+use Rattle.angles.specs.Angles.{waveOf}
+use Rattle.angles.specs.declared.angles.Elevation.{Elevation}
 use Rattle.patterns.specs.Pattern.{patternSettles}
 use Rattle.antennas.specs.declared.antenna.Antenna.{Antenna}
 use Rattle.rows.specs.Row.{rowNumber}

@@ -3,8 +3,8 @@ use Prim.Native.Nat.{ℕ}
 use mathlib.Core.Bool.{Bool, true, cond}
 use lib.Ieee.{Float, le}
 use Rattle.single.specs.Single.{num}
-use Rattle.reflection.specs.Angles.{waveOf}
-use Rattle.reflection.specs.declared.angles.Elevation.{Elevation}
+use Rattle.angles.specs.Angles.{waveOf}
+use Rattle.angles.specs.declared.angles.Elevation.{Elevation}
 use Rattle.finish.specs.Finish.{groundOf}
 use Rattle.rows.specs.Row.{rowOf}
 use Rattle.cells.specs.Cell.{zenithGain, blendOf, blendsWithZenith, cellGain}

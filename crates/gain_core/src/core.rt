@@ -6,13 +6,13 @@ ghost use Rattle.single.specs.Single.{num};
 ghost use Rattle.single.specs.Answer.{IsAnswer};
 ghost use Rattle.cells.specs.Cell.{blendsWithZenith};
 ghost use Rattle.gain_core.specs.Core.{zenithGainFor, workOf, workSettles, workNumber, workValues, zeroValues};
+use angles::Elevation;
 use antennas::Antenna;
 use cells::blend;
 use cells::blends_with_zenith;
 use cells::cell_gain;
 use cells::zenith_gain;
 use integrals::Turns;
-use reflection::Elevation;
 use rows::Row;
 use rows::RowAnswer;
 

@@ -4,7 +4,7 @@ use Rattle.single.specs.Single.{_⊞_, _⊟_, _⊠_, _⊘_, num}
 use Rattle.root.specs.Root.{root}
 use Rattle.elementary.specs.Trigonometric.{sine, cosine}
 use Rattle.trigonometric.specs.declared.trigonometric.SineCosine.{SineCosine}
-use Rattle.reflection.specs.declared.angles.Elevation.{Elevation}
+use Rattle.angles.specs.declared.angles.Elevation.{Elevation}
 use Rattle.reflection.specs.declared.ground.Ground.{Ground}
 use Rattle.rhombics.specs.declared.legs.Legs.{Legs}
 use Rattle.interlaced.specs.declared.interlaced.Offset.{Offset}

@@ -1,8 +1,8 @@
 // The terminated interlaced rhombic, type 10.
 ghost use mathlib.Core.Path.{_≡_};
 ghost use Rattle.interlaced.specs.Interlaced.{offsetOf, yOf, hkOf, interlacedOf};
+use angles::Elevation;
 use elementary::SineCosine;
-use reflection::Elevation;
 use reflection::Ground;
 use rhombics::Legs;
 use rhombics::elfac;

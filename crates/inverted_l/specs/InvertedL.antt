@@ -7,8 +7,8 @@ use Rattle.elementary.specs.Basic.{square}
 use Rattle.elementary.specs.Trigonometric.{sine, cosine}
 use Rattle.elementary.specs.Arctangent.{arctangent}
 use Rattle.elementary.specs.Logarithm.{logarithm10}
-use Rattle.reflection.specs.declared.angles.Azimuth.{Azimuth}
-use Rattle.reflection.specs.declared.angles.Elevation.{Elevation}
+use Rattle.angles.specs.declared.angles.Azimuth.{Azimuth}
+use Rattle.angles.specs.declared.angles.Elevation.{Elevation}
 use Rattle.reflection.specs.declared.ground.Ground.{Ground}
 use Rattle.integrals.specs.Pair.{pairSettles}
 use Rattle.resistance.specs.Resistance.{resistanceOf}

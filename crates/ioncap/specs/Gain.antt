@@ -6,7 +6,7 @@ use lib.Dec.{eqb}
 use lib.Ieee.{Float, le}
 use Rattle.single.specs.Single.{num}
 use Rattle.elementary.specs.Trigonometric.{sine, cosine}
-use Rattle.reflection.specs.Angles.{elevationOf}
+use Rattle.angles.specs.Angles.{elevationOf}
 use Rattle.limits.specs.Refusals.{Test, firstRefusal}
 use Rattle.limits.specs.Tests.{anyOutside, heightTest, inputTests}
 use Rattle.antennas.specs.Antenna.{antennaOf}

@@ -92,7 +92,7 @@ pub fn gain_of(call: GainCall, height: f32) -> Gain
     } = call;
     let antenna = antennas::antenna_of(kop, toaz, params, model);
     let SineCosine { sine, cosine } = elementary::sin_cos(delta);
-    let e = reflection::elevation_of(cosine, sine);
+    let e = angles::elevation_of(cosine, sine);
     let Worked::Settled(call) = work(antenna, fmc, delta, e, height) else {
         return Gain::Refused(11);
     };

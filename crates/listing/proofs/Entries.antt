@@ -17,7 +17,7 @@ use Rattle.independence.specs.Deck.{Deck, Line, card, malformed, Entry, countTe
 use Rattle.independence.specs.Contracts.{EntryDone}
 use Rattle.independence.proofs.Rows.{cleared-length}
 use Rattle.independence.proofs.Verdicts.{accepted-passes, malformed-refused}
-use Rattle.deck.specs.Card.{cardOf}
+use Rattle.cards.specs.Card.{cardOf}
 use Rattle.deck.specs.Antenna.{theAntenna}
 use Rattle.deck.specs.Run.{countLimit}
 use Rattle.deck.proofs.Laws.{theLaws}

@@ -7,7 +7,7 @@ use lib.Ieee.{Float}
 use Rattle.table.specs.Table.{cleared}
 use Rattle.independence.specs.Deck.{Deck}
 use Rattle.independence.specs.Contracts.{EntryDone}
-use Rattle.deck.specs.Fields.{fieldsRefusal}
+use Rattle.cards.specs.Fields.{fieldsRefusal}
 use Rattle.deck.specs.Antenna.{theAntenna}
 use Rattle.deck.specs.Run.{countLimit}
 use Rattle.card_line.specs.declared.line.Line as L

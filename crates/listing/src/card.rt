@@ -11,9 +11,9 @@ ghost use Rattle.listing.specs.Card.{LineRun, AcceptedLine, LineListed};
 use crate::session::Session;
 use crate::writing;
 use card_line::Line;
+use cards::Fields;
 use deck::CardAnswer;
 use deck::Deck;
-use deck::Fields;
 
 // From here on a place prints as stars.
 const MOST_LISTED: u32 = 10_000_000;

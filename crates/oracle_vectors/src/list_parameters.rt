@@ -22,11 +22,11 @@ fn is_ioninit(line: &Line) -> bool {
 }
 
 fn is_length(line: &Line) -> bool {
-    let length = parameters::read_length(float(line, 0));
+    let length = lengths::read_length(float(line, 0));
     let wave = float(line, 1);
-    let leg = parameters::leg_in_waves(length, wave);
-    let height = parameters::height_in_waves(length, wave);
-    let monopole = parameters::monopole_in_waves(length, wave);
+    let leg = lengths::leg_in_waves(length, wave);
+    let height = lengths::height_in_waves(length, wave);
+    let monopole = lengths::monopole_in_waves(length, wave);
     is(line, 2, leg.fac)
         & is(line, 3, leg.el1)
         & is(line, 4, height.hwave)

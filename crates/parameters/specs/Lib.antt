@@ -1,4 +1,2 @@
 pub mod Params
-pub mod Length
-pub mod Signed
 pub mod Model

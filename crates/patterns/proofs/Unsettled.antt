@@ -7,10 +7,10 @@ use lib.Dec.{T, eqb→eq}
 use lib.IntN.{ℤ, pos, negsuc}
 use native.Mathlib.Omega.{arith}
 use lib.Ieee.{Float}
-use Rattle.parameters.specs.Length.{legOf, heightOf}
+use Rattle.lengths.specs.Length.{legOf, heightOf}
 use Rattle.parameters.specs.Params.{isType}
-use Rattle.parameters.specs.declared.length.HeightInWaves.{HeightInWaves}
-use Rattle.parameters.specs.declared.length.LegInWaves.{LegInWaves}
+use Rattle.lengths.specs.declared.length.HeightInWaves.{HeightInWaves}
+use Rattle.lengths.specs.declared.length.LegInWaves.{LegInWaves}
 use Rattle.single.specs.Answer.{IsAnswer}
 use Rattle.integrals.specs.Settled.{settledNumber}
 use Rattle.single.proofs.Answer.{answers}

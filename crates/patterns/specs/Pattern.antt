@@ -6,12 +6,12 @@ use lib.ListN.{getD}
 use lib.Ieee.{Float, nan}
 use Rattle.single.specs.Single.{num}
 use Rattle.parameters.specs.Params.{isType}
-use Rattle.parameters.specs.Length.{legOf, heightOf}
-use Rattle.parameters.specs.declared.length.HeightInWaves.{HeightInWaves}
-use Rattle.parameters.specs.declared.length.LegInWaves.{LegInWaves}
-use Rattle.parameters.specs.declared.length.Length.{Length}
-use Rattle.reflection.specs.declared.angles.Azimuth.{Azimuth}
-use Rattle.reflection.specs.declared.angles.Elevation.{Elevation}
+use Rattle.lengths.specs.Length.{legOf, heightOf}
+use Rattle.lengths.specs.declared.length.HeightInWaves.{HeightInWaves}
+use Rattle.lengths.specs.declared.length.LegInWaves.{LegInWaves}
+use Rattle.lengths.specs.declared.length.Length.{Length}
+use Rattle.angles.specs.declared.angles.Azimuth.{Azimuth}
+use Rattle.angles.specs.declared.angles.Elevation.{Elevation}
 use Rattle.reflection.specs.declared.ground.Ground.{Ground}
 use Rattle.rhombics.specs.Legs.{legsOf}
 use Rattle.rhombics.specs.Rhombic.{rhombicOf}

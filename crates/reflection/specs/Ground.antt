@@ -7,8 +7,8 @@ use Rattle.root.specs.Root.{root}
 use Rattle.elementary.specs.Basic.{absolute}
 use Rattle.elementary.specs.Trigonometric.{sine, cosine}
 use Rattle.elementary.specs.Arctangent.{arctangent}
-use Rattle.reflection.specs.Angles.{rightAngle}
-use Rattle.reflection.specs.declared.angles.Elevation.{Elevation}
+use Rattle.angles.specs.Angles.{rightAngle}
+use Rattle.angles.specs.declared.angles.Elevation.{Elevation}
 use Rattle.reflection.specs.declared.soil.Soil.{Soil}
 use Rattle.reflection.specs.declared.ground.Ground.{Ground}
 use Rattle.reflection.specs.declared.ground.Refraction.{Refraction}

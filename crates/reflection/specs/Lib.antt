@@ -1,3 +1,2 @@
-pub mod Angles
 pub mod Soil
 pub mod Ground

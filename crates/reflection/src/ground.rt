@@ -8,8 +8,8 @@ ghost use Rattle.reflection.specs.Ground.{
   withoutSmallDifference,
   reflectOf,
 };
-use crate::angles::Elevation;
 use crate::soil::Soil;
+use angles::Elevation;
 use elementary::SineCosine;
 
 // Magnitudes ch and cv, phases psih and psiv.

@@ -1,15 +1,7 @@
-// Ground reflection, and the angles that it and the patterns take: `iongain2` down to the match.
-mod angles;
+// The ground's reflection: `iongain2` down to the match.
 mod ground;
 mod soil;
 
-pub use angles::Azimuth;
-pub use angles::Elevation;
-pub use angles::PI;
-pub use angles::azimuth_of;
-pub use angles::elevation_of;
-pub use angles::radians_of;
-pub use angles::wave_of;
 pub use ground::Ground;
 pub use ground::reflect;
 pub use soil::Soil;

@@ -2,9 +2,9 @@
 use lib.Ieee.{Float}
 use Rattle.single.specs.Single.{_⊞_, _⊟_, _⊠_, _⊘_, num}
 use Rattle.elementary.specs.Trigonometric.{sine, cosine}
-use Rattle.reflection.specs.declared.angles.Azimuth.{Azimuth}
-use Rattle.reflection.specs.declared.angles.Elevation.{Elevation}
-use Rattle.reflection.specs.Angles.{radiansOf}
+use Rattle.angles.specs.declared.angles.Azimuth.{Azimuth}
+use Rattle.angles.specs.declared.angles.Elevation.{Elevation}
+use Rattle.angles.specs.Angles.{radiansOf}
 use Rattle.rhombics.specs.declared.legs.Legs.{Legs}
 
 -- the card's angle and off-azimuth, fac and hwave. sisum and sidif are the sines of rhi + reta and rhi - reta (types 7 and 9 take reta - rhi). Type 10 writes rhi + reta the other way round, which is the same sum: proofs/Sum.antt

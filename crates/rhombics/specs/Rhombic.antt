@@ -3,7 +3,7 @@ use lib.Ieee.{Float}
 use Rattle.single.specs.Single.{_⊞_, _⊟_, _⊠_, num}
 use Rattle.elementary.specs.Basic.{square}
 use Rattle.reflection.specs.Ground.{imagePower}
-use Rattle.reflection.specs.declared.angles.Elevation.{Elevation}
+use Rattle.angles.specs.declared.angles.Elevation.{Elevation}
 use Rattle.reflection.specs.declared.ground.Ground.{Ground}
 use Rattle.rhombics.specs.declared.legs.Legs.{Legs}
 use Rattle.rhombics.specs.Legs.{elfacOf}

@@ -1,9 +1,9 @@
 // What both rhombics take from the card and the MHz, and the factor of their legs.
 ghost use mathlib.Core.Path.{_≡_};
 ghost use Rattle.rhombics.specs.Legs.{legsOf, elfacOf};
+use angles::Azimuth;
+use angles::Elevation;
 use elementary::SineCosine;
-use reflection::Azimuth;
-use reflection::Elevation;
 
 pub struct Legs {
     pub sb: f32,
@@ -20,7 +20,7 @@ pub fn legs_of(phi: f32, azimuth: Azimuth, fac: f32, hwave: f32) -> Legs
     ensures { λ r. ⌜ r ≡ legsOf phi azimuth fac hwave ⌝ }
 {
     let Azimuth { reta, sb, cb } = azimuth;
-    let rhi = reflection::radians_of(phi);
+    let rhi = angles::radians_of(phi);
     let SineCosine { sine, cosine } = elementary::sin_cos(rhi);
     let sisum = elementary::sin(rhi + reta);
     let sidif = elementary::sin(rhi - reta);

@@ -3,7 +3,7 @@ ghost use mathlib.Core.Path.{_≡_};
 ghost use Rattle.rhombics.specs.Rhombic.{withImage, rhombicOf};
 use crate::legs::Legs;
 use crate::legs::elfac;
-use reflection::Elevation;
+use angles::Elevation;
 use reflection::Ground;
 
 // The power of a wave and its image in the ground, which reflects it with magnitude c and phase psi.

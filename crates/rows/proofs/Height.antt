@@ -16,9 +16,9 @@ use Rattle.elementary.specs.Basic.{absolute}
 use Rattle.limits.specs.Tests.{outside}
 use Rattle.limits.proofs.Outside.{within-mag}
 use Rattle.parameters.specs.Params.{isType}
-use Rattle.parameters.specs.Length.{lengthOf, inWaves, phaseOf, monopoleOf}
-use Rattle.parameters.specs.declared.length.Length.the-variants.{Metres, Wavelengths}
-use Rattle.reflection.specs.Angles.{waveOf}
+use Rattle.lengths.specs.Length.{lengthOf, inWaves, phaseOf, monopoleOf}
+use Rattle.lengths.specs.declared.length.Length.the-variants.{Metres, Wavelengths}
+use Rattle.angles.specs.Angles.{waveOf}
 use Rattle.patterns.specs.Pattern.{patternOf}
 use Rattle.rows.specs.Row.{heightFor, rowFrom, rowOf}
 use Rattle.antennas.specs.declared.antenna.Antenna.{Antenna}

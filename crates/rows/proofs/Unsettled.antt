@@ -6,7 +6,7 @@ use lib.Ieee.{Float}
 use Rattle.single.specs.Answer.{IsAnswer}
 use Rattle.integrals.specs.Settled.{settledNumber}
 use Rattle.single.proofs.Answer.{answers}
-use Rattle.reflection.specs.Angles.{waveOf}
+use Rattle.angles.specs.Angles.{waveOf}
 use Rattle.patterns.specs.Pattern.{patternSettles, patternNumber}
 use Rattle.antennas.specs.declared.antenna.Antenna.{Antenna}
 use Rattle.patterns.specs.declared.pattern.PatternAnswer.{PatternAnswer}

@@ -6,11 +6,11 @@ use lib.ListN.{getD}
 use lib.Ieee.{Float, nan}
 use Rattle.single.specs.Single.{num}
 use Rattle.parameters.specs.Params.{isType}
-use Rattle.parameters.specs.Length.{monopoleOf}
+use Rattle.lengths.specs.Length.{monopoleOf}
 use Rattle.parameters.specs.Model.{curtainElevationThreshold}
-use Rattle.parameters.specs.declared.length.Length.{Length}
+use Rattle.lengths.specs.declared.length.Length.{Length}
 use Rattle.parameters.specs.declared.params.IoncapParams.{IoncapParams}
-use Rattle.reflection.specs.Angles.{waveOf}
+use Rattle.angles.specs.Angles.{waveOf}
 use Rattle.reflection.specs.Soil.{soilOf}
 use Rattle.finish.specs.Finish.{efficiencyOf}
 use Rattle.patterns.specs.Pattern.{patternOf}

@@ -1,13 +1,13 @@
 // What holds for a row: everything that the antenna and the MHz give.
 ghost use mathlib.Core.Path.{_≡_};
 ghost use Rattle.single.specs.Answer.{IsAnswer};
-ghost use Rattle.reflection.specs.Angles.{waveOf};
+ghost use Rattle.angles.specs.Angles.{waveOf};
 ghost use Rattle.patterns.specs.Pattern.{patternSettles};
 ghost use Rattle.rows.specs.Row.{sokFor, heightFor, eff8For, rowOf, rowNumber, rowValues, zeroRow};
 use antennas::Antenna;
 use integrals::Turns;
+use lengths::Length;
 use parameters::IoncapParams;
-use parameters::Length;
 use patterns::Pattern;
 use patterns::PatternAnswer;
 use patterns::pattern_of;
@@ -50,8 +50,8 @@ fn height_for(kop: i32, leg: Length, wave: f32) -> f32
     ensures { λ r. ⌜ r ≡ heightFor kop leg wave ⌝ }
 {
     match kop {
-        2 => parameters::monopole_in_waves(leg, wave).x,
-        5 => parameters::monopole_in_waves(leg, wave).x,
+        2 => lengths::monopole_in_waves(leg, wave).x,
+        5 => lengths::monopole_in_waves(leg, wave).x,
         _ => 1.0,
     }
 }
@@ -69,7 +69,7 @@ fn eff8_for(pattern: Pattern) -> f32
 pub fn row_of(antenna: Antenna, fmc: f32) -> RowAnswer
     ensures { λ r. ⌜ IsAnswer rowNumber rowValues zeroRow 11 (rowOf antenna fmc) (patternSettles antenna (waveOf fmc)) r ⌝ }
 {
-    let wave = reflection::wave_of(fmc);
+    let wave = angles::wave_of(fmc);
     let PatternAnswer::Settled(pattern, turns) = pattern_of(antenna, wave) else {
         return RowAnswer::Unsettled;
     };

@@ -6,10 +6,10 @@ use Rattle.root.specs.Root.{root}
 use Rattle.elementary.specs.Basic.{absolute}
 use Rattle.elementary.specs.Trigonometric.{sine, cosine}
 use Rattle.elementary.specs.Arctangent.{arcsine}
-use Rattle.parameters.specs.declared.length.LegInWaves.{LegInWaves}
-use Rattle.parameters.specs.declared.length.HeightInWaves.{HeightInWaves}
-use Rattle.reflection.specs.Angles.{radiansOf}
-use Rattle.reflection.specs.declared.angles.Azimuth.{Azimuth}
+use Rattle.lengths.specs.declared.length.LegInWaves.{LegInWaves}
+use Rattle.lengths.specs.declared.length.HeightInWaves.{HeightInWaves}
+use Rattle.angles.specs.Angles.{radiansOf}
+use Rattle.angles.specs.declared.angles.Azimuth.{Azimuth}
 use Rattle.slopes.specs.declared.slope.Slope.{Slope}
 
 -- ht: the other end's height in wavelengths. The first extra is in wavelengths where negative, else in metres

@@ -1,10 +1,10 @@
 // What holds for a whole row: the slope of the legs and their angles to the off-azimuth.
 ghost use mathlib.Core.Path.{_≡_};
 ghost use Rattle.slopes.specs.Slope.{htOf, riseOf, slopeOf, veeSlope, rhombicSlope};
+use angles::Azimuth;
 use elementary::SineCosine;
-use parameters::HeightInWaves;
-use parameters::LegInWaves;
-use reflection::Azimuth;
+use lengths::HeightInWaves;
+use lengths::LegInWaves;
 
 // `g` and `pp` are the slope's sine and cosine, `fac2` and `hwave2` twice the phases of the leg
 // and of the height.
@@ -42,7 +42,7 @@ fn slope_of(g: f32, fac: f32, hwave: f32, phi: f32, reta: f32) -> Slope
     ensures { λ r. ⌜ r ≡ slopeOf g fac hwave phi reta ⌝ }
 {
     let pp = root::sqrt(1.0 - g * g);
-    let e = elementary::sin(reflection::radians_of(phi));
+    let e = elementary::sin(angles::radians_of(phi));
     let rhi = elementary::asin(e / pp);
     let SineCosine { sine, cosine } = elementary::sin_cos(rhi + reta);
     let sidif = elementary::sin(reta - rhi);

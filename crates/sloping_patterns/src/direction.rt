@@ -1,7 +1,7 @@
 // What both patterns take of a cell: the direction against the legs, and the reflected phases.
 ghost use mathlib.Core.Path.{_≡_};
 ghost use Rattle.sloping_patterns.specs.Direction.{directionOf, reflectedOf};
-use reflection::Elevation;
+use angles::Elevation;
 use slopes::Slope;
 
 // 1 and 2 are the legs, 3 and 4 their images: `u` is 1 minus the cosine of the angle to the

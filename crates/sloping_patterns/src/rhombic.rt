@@ -5,9 +5,9 @@ use crate::direction::Direction;
 use crate::direction::Field;
 use crate::direction::direction_of;
 use crate::direction::reflected_of;
-use reflection::Elevation;
+use angles::Elevation;
+use angles::PI;
 use reflection::Ground;
-use reflection::PI;
 use slopes::Slope;
 
 // What two legs, or their images, sum to: `a6` and `b6`, or `a7` and `b7`.

@@ -6,7 +6,7 @@ use crate::direction::Field;
 use crate::direction::ReflectedPhase;
 use crate::direction::direction_of;
 use crate::direction::reflected_of;
-use reflection::Elevation;
+use angles::Elevation;
 use reflection::Ground;
 use slopes::Slope;
 

@@ -3,7 +3,7 @@ use mathlib.Core.Path.{_≡_, refl, _∙_}
 use mathlib.Core.Logic.{_⊎_, inl, inr}
 use native.Mathlib.Omega.{arith}
 use lib.Ieee.{Float}
-use Rattle.parameters.specs.declared.length.Length.{Length}
+use Rattle.lengths.specs.declared.length.Length.{Length}
 use Rattle.single.specs.Answer.{IsAnswer}
 use Rattle.integrals.specs.Settled.{settledNumber}
 use Rattle.single.proofs.Answer.{answers}

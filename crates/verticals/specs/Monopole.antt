@@ -6,10 +6,10 @@ use Rattle.single.specs.Single.{_⊟_, _⊠_, _⊘_, num}
 use Rattle.elementary.specs.Basic.{square}
 use Rattle.elementary.specs.Trigonometric.{sine, cosine}
 use Rattle.elementary.specs.Arctangent.{arctangent}
-use Rattle.parameters.specs.Length.{legOf, monopoleOf}
-use Rattle.parameters.specs.declared.length.Length.{Length}
+use Rattle.lengths.specs.Length.{legOf, monopoleOf}
+use Rattle.lengths.specs.declared.length.Length.{Length}
 use Rattle.reflection.specs.Ground.{imagePower}
-use Rattle.reflection.specs.declared.angles.Elevation.{Elevation}
+use Rattle.angles.specs.declared.angles.Elevation.{Elevation}
 use Rattle.reflection.specs.declared.ground.Ground.{Ground}
 use Rattle.integrals.specs.Pair.{pairSettles}
 use Rattle.resistance.specs.Resistance.{resistanceOf}

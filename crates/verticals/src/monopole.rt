@@ -5,9 +5,9 @@ ghost use mathlib.Core.Path.{_≡_};
 ghost use Rattle.single.specs.Answer.{IsAnswer};
 ghost use Rattle.verticals.specs.Monopole.{shortResistance, monopoleRow, notZero, monopoleRain};
 ghost use Rattle.verticals.specs.Monopole.{monopoleSettles, monopoleNumber, monopoleValues, zeroMonopole};
+use angles::Elevation;
 use integrals::Turns;
-use parameters::Length;
-use reflection::Elevation;
+use lengths::Length;
 use reflection::Ground;
 use resistance::Resistance;
 use resistance::resistance_of;
@@ -44,12 +44,12 @@ fn short_resistance(el1: f32, ra: f32) -> f32
 pub fn monopole_row(leg: Length, wave: f32) -> MonopoleRow
     ensures { λ r. ⌜ IsAnswer monopoleNumber monopoleValues zeroMonopole 11 (monopoleRow leg wave) (monopoleSettles leg wave) r ⌝ }
 {
-    let waves = parameters::monopole_in_waves(leg, wave);
+    let waves = lengths::monopole_in_waves(leg, wave);
     let d = 2.0 * waves.a;
     let Resistance::Settled(ra, turns) = resistance_of(d, 2.0 * d) else {
         return MonopoleRow::Unsettled;
     };
-    let el1 = parameters::leg_in_waves(leg, wave).el1;
+    let el1 = lengths::leg_in_waves(leg, wave).el1;
     let ra = short_resistance(el1, ra);
     let hwave = 6.283 * waves.x;
     let both = elementary::sin_cos(hwave);

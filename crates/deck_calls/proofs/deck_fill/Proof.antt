@@ -10,7 +10,7 @@ use borrow.Author.Needs.{needs}
 use borrow.Author.Tests.{eq-eqb, ne-eqb}
 use Rattle.independence.specs.Contracts.{EntryDone}
 use Rattle.independence.specs.Deck.{Deck}
-use Rattle.deck.specs.declared.fields.Fields.{Fields}
+use Rattle.cards.specs.declared.fields.Fields.{Fields}
 use Rattle.deck.specs.Antenna.{theAntenna}
 use Rattle.deck.specs.Run.{countLimit, cardEntry}
 use Rattle.parameters.specs.Model.{modelOf}

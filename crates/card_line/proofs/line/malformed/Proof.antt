@@ -1,7 +1,7 @@
 use mathlib.Core.Path.{ap}
 use mathlib.Core.Bool.{false}
 use lib.Ieee.{round, ofBits}
-use Rattle.deck.specs.declared.fields.Fields.{Fields}
+use Rattle.cards.specs.declared.fields.Fields.{Fields}
 use Rattle.card_line.specs.Line.{fieldsOf, malformedLine}
 use borrow.Author.Needs.{needs}
 use Rattle.card_line.proofs.line.malformed.Statement.{statement}

@@ -3,8 +3,8 @@ use mathlib.Core.List.{[], _∷_}
 use types.Run.{OneOf, miss}
 use denote.Enum.Declared.{tagOf}
 use lib.Ieee.{Float}
-use Rattle.reflection.specs.declared.angles.Azimuth.{Azimuth}
-use Rattle.reflection.specs.declared.angles.Elevation.{Elevation}
+use Rattle.angles.specs.declared.angles.Azimuth.{Azimuth}
+use Rattle.angles.specs.declared.angles.Elevation.{Elevation}
 use Rattle.cells.specs.Cell.{powerCell, cellBy, cellOf}
 use Rattle.rows.specs.declared.row.Row.{Row}
 use Rattle.patterns.specs.declared.pattern.Pattern.{Pattern}

@@ -3,7 +3,7 @@ use Prim.Native.Nat.{_+_, _-_, _≤_}
 use native.Mathlib.Omega.{arith}
 use borrow.Author.Needs.{needs}
 use Rattle.independence.proofs.Loops.{CardInv, card-start}
-use Rattle.deck.specs.declared.fields.Fields.{Fields}
+use Rattle.cards.specs.declared.fields.Fields.{Fields}
 use Rattle.deck.specs.Antenna.{theAntenna}
 use Rattle.deck.proofs.Laws.{theLaws}
 use Rattle.deck.proofs.CardRows.{firstOf, lastOf, Rows, RowsOf, rows-of, rows-read, rows-step, rows-stop, rows-end}

@@ -3,7 +3,7 @@ use Prim.Native.Nat.{_-_}
 use native.Mathlib.Omega.{arith}
 use borrow.Author.Needs.{needs}
 use lib.Ieee.{Float}
-use Rattle.reflection.specs.declared.angles.Elevation.{Elevation}
+use Rattle.angles.specs.declared.angles.Elevation.{Elevation}
 use Rattle.cells.specs.Cell.{cellGain}
 use Rattle.deck.specs.Row.{cellAt}
 use Rattle.deck.proofs.Elevations.{column-read}

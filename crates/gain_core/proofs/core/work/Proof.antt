@@ -4,7 +4,7 @@ use lib.Ieee.{Float, le, round, ofBits}
 use mir.Syntax.{w32}
 use mir.ValLaws.{toZ-ofZ}
 use Rattle.single.specs.Single.{num}
-use Rattle.reflection.specs.declared.angles.Elevation.{Elevation}
+use Rattle.angles.specs.declared.angles.Elevation.{Elevation}
 use Rattle.integrals.specs.declared.entry.Turns.{Turns}
 use Rattle.finish.specs.Finish.{groundOf}
 use Rattle.finish.specs.declared.Finished.{Finished}

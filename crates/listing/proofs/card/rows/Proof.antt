@@ -4,7 +4,7 @@ use lib.IntN.{natAbs}
 use Prim.Native.Nat.{_-_, _+_}
 use Rattle.listing.proofs.Printed.{rows-length}
 use native.Mathlib.Omega.{arith}
-use Rattle.deck.specs.Card.{cardOf}
+use Rattle.cards.specs.Card.{cardOf}
 use Rattle.listing.proofs.Entries.{refused-rows, card-rows, accepted-rows}
 use borrow.Author.Needs.{needs}
 use Rattle.listing.proofs.card.rows.Statement.{statement}
