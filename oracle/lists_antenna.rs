@@ -2,6 +2,7 @@
 //! upstream `gain_lookup` and `invcon`. README.md gives the form of a line.
 
 use crate::antenna::{gain_lookup, invcon, GainTable, ELEVS, FREQS};
+use crate::con::R2D;
 use crate::elementary::bits;
 use crate::splitmix::SplitMix64;
 use std::io::{self, Write};
@@ -111,7 +112,8 @@ fn line(out: &mut impl Write, c: &Call) -> io::Result<()> {
     )
 }
 
-/// Document 01's refusals, then upstream's answer.
+/// Document 01's refusals, then upstream's answer; outside a card's range
+/// document 02's (C-11), which upstream has not.
 fn answer(c: &Call) -> (u32, f32, f32) {
     if c.kind != 'i' && c.length != LENGTH {
         return (7, 0.0, 0.0);
@@ -122,7 +124,7 @@ fn answer(c: &Call) -> (u32, f32, f32) {
     if c.kind == 'i' {
         return (0, invcon(c.mhz, c.elevation), 0.0);
     }
-    let mut filled = (1, FREQS as i32);
+    let table = table(c.seed);
     if c.kind == 'c' {
         if c.verdict != 0 {
             return (0, 0.0, 0.0);
@@ -130,21 +132,46 @@ fn answer(c: &Call) -> (u32, f32, f32) {
         if c.first < 1 || c.last > FREQS as i32 || c.first > c.last {
             return (4, 0.0, 0.0);
         }
-        filled = (c.first, c.last);
+        if let Some(mhz) = row_alone(c) {
+            return lookup_in_row(&table, mhz, c.elevation);
+        }
     }
-    let (gain, efficiency) = gain_lookup(&table(c.seed, filled), c.mhz, c.elevation);
+    let (gain, efficiency) = gain_lookup(&table, c.mhz, c.elevation);
     (0, gain, efficiency)
+}
+
+/// The MHz of the row that a card's lookup takes alone: the first below it, the
+/// last from it up.
+fn row_alone(c: &Call) -> Option<i32> {
+    if c.mhz < c.first as f32 {
+        return Some(c.first);
+    }
+    if c.mhz >= c.last as f32 {
+        return Some(c.last);
+    }
+    None
+}
+
+/// One row between its columns. Nothing is blended in MHz, so that a -0 stays one
+/// and an infinity in another row does not count.
+fn lookup_in_row(table: &GainTable, mhz: i32, elevation: f32) -> (u32, f32, f32) {
+    let row = (mhz - 1) as usize;
+    let degrees = elevation * R2D;
+    let column = ((degrees + 1.0) as i32).clamp(1, ELEVS as i32) as usize - 1;
+    let low = table.gains[row][column];
+    let high = table.gains[row][(column + 1).min(ELEVS - 1)];
+    let gain = low + (degrees - column as f32) * (high - low);
+    (0, gain, table.eff[row])
 }
 
 fn within(x: f32) -> bool {
     x.is_finite() && x.abs() <= 1000.0
 }
 
-/// The table of a seed, with zeros in the rows outside first to last MHz.
-fn table(seed: u32, (first, last): (i32, i32)) -> GainTable {
+/// The table of a seed, all rows filled.
+fn table(seed: u32) -> GainTable {
     let mut table = GainTable::default();
-    for m in first..=last {
-        let row = (m - 1) as usize;
+    for row in 0..FREQS {
         for d in 0..ELEVS {
             table.gains[row][d] = cell(seed, row * ELEVS + d);
         }
@@ -235,7 +262,72 @@ fn cards(random: &mut SplitMix64) -> Vec<Call> {
         }
     }
     list.push(card(5, 9, 11, lookup(5, 7.5, 0.4)));
+    list.extend(cards_at_range_ends());
     list
+}
+
+/// Cards at and beyond both ends of their ranges: one row alone, or two blended.
+fn cards_at_range_ends() -> Vec<Call> {
+    let mut list = Vec::new();
+    for (first, last) in [(2, 12), (5, 5), (1, 30)] {
+        let (low, high) = (first as f32, last as f32);
+        let ends = [low.next_down(), low, high.next_down(), high, high + 0.5];
+        for (seed, elevation) in special_tables(first, last) {
+            list.extend(ends.map(|mhz| card(first, last, 0, lookup(seed, mhz, elevation))));
+        }
+        for mhz in [low.next_up(), high.next_up(), -5.0, 0.0, -0.0, 1000.0, -1000.0] {
+            list.push(card(first, last, 0, lookup(9, mhz, BETWEEN)));
+        }
+        for elevation in [0.0, -0.0, -0.5, 1.5707963, 1.58, 1000.0] {
+            list.push(card(first, last, 0, lookup(9, high + 0.5, elevation)));
+            list.push(card(first, last, 0, lookup(9, low - 0.5, elevation)));
+        }
+    }
+    list.sort_by_key(place);
+    list.dedup_by_key(|call| place(call));
+    list
+}
+
+/// What tells the calls of `cards_at_range_ends` apart.
+fn place(call: &Call) -> (i32, u32, u32, u32) {
+    (call.first, call.seed, bits(call.mhz), bits(call.elevation))
+}
+
+/// An elevation between two columns, and the column below it.
+const BETWEEN: f32 = 0.4;
+const COLUMN: usize = 22;
+
+/// Seeds, with an elevation, whose tables hold an infinity, a NaN or a -0 in the
+/// range's end rows or in those next to them: in a gain, or in the efficiency.
+fn special_tables(first: i32, last: i32) -> Vec<(u32, f32)> {
+    let mut found = Vec::new();
+    for m in [first - 1, first, first + 1, last - 1, last, last + 1] {
+        if m < 1 || m > FREQS as i32 {
+            continue;
+        }
+        let row = (m - 1) as usize;
+        let efficiency = FREQS * ELEVS + row;
+        for special in [f32::INFINITY, f32::NEG_INFINITY, f32::NAN] {
+            found.push((seed_with(special, row * ELEVS + COLUMN), BETWEEN));
+            found.push((seed_with(special, efficiency), BETWEEN));
+        }
+        found.push((seed_with(-0.0, efficiency), BETWEEN));
+        found.push((seed_with_minus_zero_on_ground(row), 0.0));
+    }
+    found
+}
+
+/// The least seed whose table has this number at a place.
+fn seed_with(number: f32, k: usize) -> u32 {
+    (1..).find(|&seed| bits(cell(seed, k)) == bits(number)).unwrap()
+}
+
+/// The same of -0 on the ground, with a gain below 0 at the next column: there the
+/// blend of the columns keeps the sign.
+fn seed_with_minus_zero_on_ground(row: usize) -> u32 {
+    let ground = row * ELEVS;
+    let found = |&seed: &u32| bits(cell(seed, ground)) == bits(-0.0) && cell(seed, ground + 1) < 0.0;
+    (1..).find(found).unwrap()
 }
 
 /// 7, 2 and 4, each with the others.

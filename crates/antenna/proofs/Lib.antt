@@ -1,4 +1,6 @@
 pub mod Bounds
 pub mod Cuts
-pub mod Cards
+pub mod CardRows
+pub mod Between
+pub mod FilledRows
 pub mod ByteTables

@@ -1,4 +1,5 @@
 pub mod Places
 pub mod Rows
+pub mod FilledRows
 pub mod Lookups
 pub mod ByteTables

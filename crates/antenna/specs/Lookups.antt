@@ -1,19 +1,18 @@
--- Document 01 section 9: `gain_lookup` and a card's lookup. Definitions only.
+-- Document 01 section 9: `gain_lookup`, and a card's lookup as document 02, C-11, has it. Definitions only.
 use Prim.Native.Nat.{ℕ}
 use mathlib.Core.Bool.{cond, _&&_}
 use mathlib.Core.List.{List}
 use lib.Dec.{eqb}
-use lib.IntN.{ℤ}
+use lib.IntN.{ℤ, natAbs}
 use lib.Ieee.{Float}
 use Rattle.single.specs.Single.{num}
 use Rattle.lookup_refusals.specs.LookupRefusals.{lookupRefusal, cardRefusal}
 use Rattle.antenna.specs.Places.{placeOf}
-use Rattle.antenna.specs.Rows.{rowOf, filledRow, blended}
+use Rattle.antenna.specs.Rows.{rowOf, blendedAt}
+use Rattle.antenna.specs.FilledRows.{fromFilledRows}
 use Rattle.antenna.specs.declared.lookups.Lookup.{Lookup}
 use Rattle.antenna.specs.declared.lookups.Lookup.the-variants.{Accepted, Refused}
-use Rattle.antenna.specs.declared.places.Place.{Place}
 use Rattle.antenna.specs.declared.rows.GainEfficiency.{GainEfficiency}
-use Rattle.antenna.specs.declared.rows.Row.{Row}
 
 abbrev pub zeros : GainEfficiency
 zeros = record { gain = num 0 1; efficiency = num 0 1 }
@@ -31,10 +30,6 @@ lookupValues (Refused n) = zeros
 abbrev pub answered : ℕ → GainEfficiency → Lookup
 answered refusal values = cond (eqb refusal 0) (Accepted values) (Refused refusal)
 
--- the blend of two rows at a place
-abbrev pub blendedAt : Place → (ℕ → ℕ → ℕ → Row) → GainEfficiency
-blendedAt p row = blended (row (p .i) (p .j) (p .jp1)) (row (p .ip1) (p .j) (p .jp1)) (p .xfmc) (p .xdelta)
-
 abbrev pub gainLookupNumber : List Float → Float → Float → ℕ
 gainLookupNumber t fmc delta = lookupRefusal t fmc delta
 
@@ -48,12 +43,16 @@ gainLookupOf t fmc delta = answered (lookupRefusal t fmc delta) (blendedAt (plac
 abbrev pub cardLookupNumber : ℤ → ℤ → ℕ → List Float → Float → Float → ℕ
 cardLookupNumber first last verdict t fmc delta = cardRefusal first last verdict t fmc delta
 
+-- what an accepted card's lookup finds; refusal 4 has seen to it that first and last are from 1 to 30
+abbrev pub cardValues : ℤ → ℤ → List Float → Float → Float → GainEfficiency
+cardValues first last t fmc delta = fromFilledRows (natAbs first) (natAbs last) t fmc (placeOf fmc delta)
+
 -- zeros of a refused card too, whose number is 0
 unfoldable pub cardLookupValues : ℤ → ℤ → ℕ → List Float → Float → Float → GainEfficiency
 cardLookupValues first last verdict t fmc delta =
-    cond (eqb (cardRefusal first last verdict t fmc delta) 0 && eqb verdict 0) (blendedAt (placeOf fmc delta) (filledRow first last t)) zeros
+    cond (eqb (cardRefusal first last verdict t fmc delta) 0 && eqb verdict 0) (cardValues first last t fmc delta) zeros
 
 -- the whole answer
 unfoldable pub cardLookupOf : ℤ → ℤ → ℕ → List Float → Float → Float → Lookup
 cardLookupOf first last verdict t fmc delta =
-    answered (cardRefusal first last verdict t fmc delta) (cond (eqb verdict 0) (blendedAt (placeOf fmc delta) (filledRow first last t)) zeros)
+    answered (cardRefusal first last verdict t fmc delta) (cond (eqb verdict 0) (cardValues first last t fmc delta) zeros)

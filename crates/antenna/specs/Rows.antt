@@ -1,13 +1,11 @@
--- Document 01 section 9: what a lookup takes of the table's rows, and the blend. Definitions only.
+-- Document 01 section 9: what a lookup takes of the table's rows, and the blend; document 02, C-11: a row alone. Definitions only.
 use Prim.Native.Nat.{ℕ, _-_, _≤_}
-use mathlib.Core.Bool.{cond}
 use mathlib.Core.List.{List}
-use lib.IntN.{ℤ}
 use lib.ListN.{getD}
 use lib.Ieee.{Float, nan}
-use Rattle.single.specs.Single.{_⊞_, _⊟_, _⊠_, num}
-use Rattle.table.specs.Range.{isFilled}
+use Rattle.single.specs.Single.{_⊞_, _⊟_, _⊠_}
 use Rattle.table.specs.Table.{rowCount, columnCount, gainAt, efficiencyAt}
+use Rattle.antenna.specs.declared.places.Place.{Place}
 use Rattle.antenna.specs.declared.rows.GainEfficiency.{GainEfficiency}
 use Rattle.antenna.specs.declared.rows.Row.{Row}
 
@@ -24,13 +22,6 @@ pub record InTable (m j jp1 : ℕ) : Type 0 where
 unfoldable pub rowOf : List Float → ℕ → ℕ → ℕ → Row
 rowOf t m j jp1 = record { gain = getD t (gainAt m (j - 1)) nan; above = getD t (gainAt m (jp1 - 1)) nan; efficiency = getD t (efficiencyAt m) nan }
 
-abbrev pub zeroRow : Row
-zeroRow = record { gain = num 0 1; above = num 0 1; efficiency = num 0 1 }
-
--- a card's row: zeros where it is unfilled, whatever the table holds
-unfoldable pub filledRow : ℤ → ℤ → List Float → ℕ → ℕ → ℕ → Row
-filledRow first last t m j jp1 = cond (isFilled first last m) (rowOf t m j jp1) zeroRow
-
 -- x of the way from a to b
 abbrev pub between : Float → Float → Float → Float
 between x a b = a ⊞ x ⊠ (b ⊟ a)
@@ -40,3 +31,11 @@ blended low high xfmc xdelta =
     let rx = between xfmc (low .gain) (high .gain) in
     let ry = between xfmc (low .above) (high .above) in
     record { gain = between xdelta rx ry; efficiency = between xfmc (low .efficiency) (high .efficiency) }
+
+-- the blend of two rows at a place
+abbrev pub blendedAt : Place → (ℕ → ℕ → ℕ → Row) → GainEfficiency
+blendedAt p row = blended (row (p .i) (p .j) (p .jp1)) (row (p .ip1) (p .j) (p .jp1)) (p .xfmc) (p .xdelta)
+
+-- one row 'alone': 'angles blend as before', and nothing is done in MHz, so that a -0.0 stays one and no neighbour counts
+unfoldable pub rowAlone : Row → Float → GainEfficiency
+rowAlone row xdelta = record { gain = between xdelta (row .gain) (row .above); efficiency = row .efficiency }

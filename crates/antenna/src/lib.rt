@@ -1,5 +1,6 @@
 // Lookups in a table: document 01 section 9.
 mod byte_lookup;
+mod filled_rows;
 mod lookups;
 mod places;
 mod rows;

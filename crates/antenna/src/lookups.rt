@@ -2,11 +2,10 @@
 ghost use mathlib.Core.Path.{_≡_};
 ghost use Rattle.antenna.specs.Lookups.{lookupNumber, lookupValues};
 ghost use Rattle.antenna.specs.Lookups.{gainLookupNumber, gainLookupOf, gainLookupValues, cardLookupNumber, cardLookupOf, cardLookupValues};
+use crate::filled_rows::from_filled_rows;
 use crate::places::locate;
 use crate::rows::GainEfficiency;
-use crate::rows::blend;
-use crate::rows::card_row;
-use crate::rows::row_at;
+use crate::rows::blend_at;
 use lookup_refusals::card_refusal;
 use lookup_refusals::lookup_refusal;
 
@@ -26,13 +25,11 @@ pub fn gain_lookup(table: &[f32], fmc: f32, delta: f32) -> Lookup
         return Lookup::Refused(refusal);
     }
     let at = locate(fmc, delta);
-    let low = row_at(table, at.i, at.j, at.jp1);
-    let high = row_at(table, at.ip1, at.j, at.jp1);
-    Lookup::Accepted(blend(low, high, at.xfmc, at.xdelta))
+    Lookup::Accepted(blend_at(table, at))
 }
 
-// By the card's first and last MHz and its verdict: rows that it did not fill count as zeros, and a
-// refused card gives zeros.
+// By the card's first and last MHz and its verdict: only the rows that it filled are read, outside its
+// range the nearest one, and a refused card gives zeros.
 pub fn card_lookup(
     first: i32,
     last: i32,
@@ -56,7 +53,5 @@ pub fn card_lookup(
         });
     }
     let at = locate(fmc, delta);
-    let low = card_row(first, last, table, at.i, at.j, at.jp1);
-    let high = card_row(first, last, table, at.ip1, at.j, at.jp1);
-    Lookup::Accepted(blend(low, high, at.xfmc, at.xdelta))
+    Lookup::Accepted(from_filled_rows(first as usize, last as usize, table, fmc, at))
 }

@@ -1,24 +1,25 @@
 -- What is known of fields that refusals 1 to 5 let pass. Assumes nothing.
 use mathlib.Core.Path.{_≡_, refl, sym, subst}
-use mathlib.Core.Bool.{Bool, true, false, not, _&&_, cond}
+use mathlib.Core.Bool.{Bool, true, false, not, cond}
 use mathlib.Core.List.{List, [], _∷_}
 use mathlib.Core.Logic.{_≢_}
-use Prim.Native.Nat.{ℕ, zero, suc, _<_, _≤_}
+use Prim.Native.Nat.{ℕ, zero, suc, _<_}
 use native.Mathlib.Omega.{arith}
 use native.Mathlib.Nat.{not-suc-le-zero}
-use lib.Dec.{T, eqb, leb}
+use lib.Dec.{T, eqb}
 use lib.IntN.{ℤ, pos, negsuc, natAbs}
 use lib.ListN.{length, getD}
 use lib.Ieee.{Float, nan, le, lt, eq, neg, round}
-use borrow.Author.Tests.{leb-true, eqb-true, not-false}
+use borrow.Author.Tests.{eqb-true, not-false}
 use Rattle.single.specs.Single.{num}
-use Rattle.single.proofs.Booleans.{and-left, and-right, or-left, or-right}
+use Rattle.single.proofs.Booleans.{or-left, or-right}
 use Rattle.elementary.specs.Basic.{absolute}
 use Rattle.parameters.specs.Params.{isType, paramsOf, ioninitOf}
 use Rattle.parameters.specs.declared.params.IoncapParams.{IoncapParams}
 use Rattle.limits.specs.Refusals.{firstRefusal}
 use Rattle.limits.specs.Tests.{isIoncapType, outside, anyOutside, tooManyBays, inputRefusal}
 use Rattle.table.specs.Range.{isRange}
+use Rattle.table.proofs.Range.{Range, range-of}
 use Rattle.independence.proofs.Verdicts.{passed}
 use Rattle.cards.specs.declared.fields.Fields.{Fields}
 use Rattle.cards.specs.Fields.{fieldsOutside, paramsFor, fieldsRefusal}
@@ -62,28 +63,6 @@ type-whole (negsuc k) e = absurd (subst T (sym e) tt)
 
 pub is-type : (f : Fields) → fieldsRefusal f ≡ 0 → f .kop ≡ pos (natAbs (f .kop))
 is-type f e = type-whole (f .kop) (fields-passed f e .type)
-
-pub record Range (first last : ℤ) : Type 0 where
-  pub firstWhole : first ≡ pos (natAbs first)
-  pub lastWhole : last ≡ pos (natAbs last)
-  pub low : 1 ≤ natAbs first
-  pub order : natAbs first ≤ natAbs last
-  pub high : natAbs last ≤ 30
-
-range-of : (a b : ℤ) → isRange a b ≡ true → Range a b
-unfolding isRange
-range-of (pos a) (pos b) e =
-    let both = and-left (leb 1 a && leb a b) (leb b 30) e in
-    record {
-      firstWhole = refl;
-      lastWhole = refl;
-      low = leb-true 1 a (and-left (leb 1 a) (leb a b) both);
-      order = leb-true a b (and-right (leb 1 a) (leb a b) both);
-      high = leb-true b 30 (and-right (leb 1 a && leb a b) (leb b 30) e);
-    }
-range-of (pos a) (negsuc b) e =
-    absurd (subst T (sym (and-right (leb 1 a) false (and-left (leb 1 a && false) true e))) tt)
-range-of (negsuc a) b e = absurd (subst T (sym e) tt)
 
 pub in-range : (f : Fields) → fieldsRefusal f ≡ 0 → Range (f .first) (f .last)
 in-range f e = range-of (f .first) (f .last) (fields-passed f e .range)

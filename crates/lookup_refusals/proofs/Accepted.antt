@@ -54,3 +54,14 @@ before n m e = go (eqb n 0) (eqb-true n 0) e
 
 pub card-accepted : (first last : ℤ) (verdict : ℕ) (t : List Float) (fmc delta : Float) → cardRefusal first last verdict t fmc delta ≡ 0 → (length t ≡ tableLength) × (outside fmc ≡ false) × (outside delta ≡ false)
 card-accepted first last verdict t fmc delta e = accepted t fmc delta (before (lookupRefusal t fmc delta) _ (rw card-refusal at e))
+
+four : (r : Bool) → _≡_ {A = ℕ} (cond (not r) 4 0) 0 → r ≡ true
+four true e = refl
+four false e = absurd (never 3 e)
+
+-- where 4 lets an accepted card pass, its first and last MHz are a range
+pub card-range : (first last : ℤ) (verdict : ℕ) (t : List Float) (fmc delta : Float)
+    → cardRefusal first last verdict t fmc delta ≡ 0 → eqb verdict 0 ≡ true → isRange first last ≡ true
+card-range first last verdict t fmc delta e v =
+    let tests = rw v at (rw card-refusal at e) in
+    four (isRange first last) (rw (before (lookupRefusal t fmc delta) _ tests) at tests)

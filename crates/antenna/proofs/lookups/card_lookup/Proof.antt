@@ -1,12 +1,15 @@
 use mathlib.Core.Path.{_≡_, sym, _∙_}
+use native.Mathlib.Omega.{arith}
 use lib.Ieee.{round, ofBits}
 use mir.Syntax.{w32}
 use mir.Val.{toZ, ofZ}
 use mir.ValLaws.{toZ-ofZ}
 use borrow.Author.Tests.{eq-eqb, ne-eqb}
 use Rattle.antenna.specs.Lookups.{lookupNumber, lookupValues, cardLookupNumber, cardLookupOf, cardLookupValues}
-use Rattle.lookup_refusals.proofs.Accepted.{card-accepted}
+use Rattle.table.proofs.Range.{Range, range-of}
+use Rattle.lookup_refusals.proofs.Accepted.{card-accepted, card-range}
 use Rattle.antenna.proofs.Bounds.{low-in, high-in}
+use Rattle.antenna.proofs.CardRows.{end-fits, ends-in}
 use borrow.Author.Needs.{needs}
 use Rattle.antenna.proofs.lookups.card_lookup.Statement.{statement}
 use Rattle.antenna.proofs.lookups.card_lookup.Tie as tie
@@ -33,27 +36,37 @@ returns-2 c =
 locate-requires : tie.Need-locate-requires
 locate-requires c κs = let a = card-accepted _ _ _ _ _ _ (sym (c .before .before .card-refusal .ensures) ∙ c .before .if1 .left) in (a .1, a .2)
 
-card-row-requires : tie.Need-card-row-requires
-card-row-requires c κs = (card-accepted _ _ _ _ _ _ (sym (c .before .before .before .card-refusal .ensures) ∙ c .before .before .if1 .left) .0, rw (c .locate .ensures) (low-in _ _))
+-- of an accepted card that is not refused
+range : (c : tie.After-locate) → let a = c .before .before .before .before .before .args in Range (a .first) (a .last)
+range c =
+    let z = c .before .before .if1 .left in
+    range-of _ _ (card-range _ _ _ _ _ _ (sym (number (c .before .before .before)) ∙ z) (eq-eqb _ 0 (c .before .if2 .left)))
 
-card-row-requires-2 : tie.Need-card-row-requires-2
-card-row-requires-2 c κs = (card-accepted _ _ _ _ _ _ (sym (c .before .before .before .before .card-refusal .ensures) ∙ c .before .before .before .if1 .left) .0, rw (c .before .locate .ensures) (high-in _ _))
+first-fits : tie.Need-cast-from-filled-rows
+first-fits c = let r = range c in end-fits _ _ (signed (c .before .before .before .before .before) .0) (r .firstWhole) (omega (arith, r .order, r .high))
+
+last-fits : tie.Need-cast-from-filled-rows-2
+last-fits c = let r = range c in end-fits _ _ (signed (c .before .before .before .before .before) .1) (r .lastWhole) (r .high)
+
+from-filled-rows-requires : tie.Need-from-filled-rows-requires
+from-filled-rows-requires c κs =
+    let s = signed (c .before .before .before .before .before) in
+    let size = card-accepted _ _ _ _ _ _ (sym (c .before .before .before .card-refusal .ensures) ∙ c .before .before .if1 .left) .0 in
+    let at = c .locate .ensures in
+    (size, (rw (s .0, s .1, at) (ends-in _ _ _ _ (range c)), (rw at (low-in _ _), rw at (high-in _ _))))
 
 returns-3 : tie.Need-returns-3
 unfolding lookupNumber lookupValues cardLookupOf cardLookupValues
 returns-3 c =
-    let e = number (c .before .before .before .before .before .before) in
-    let r = signed (c .before .before .before .before .before .before .before .before) in
-    let low = rw (r .0, r .1) at (c .before .before .card-row .ensures) in
-    let high = rw (r .0, r .1) at (c .before .card-row2 .ensures) in
-    let z = c .before .before .before .before .before .if1 .left in
-    let v = eq-eqb _ 0 (c .before .before .before .before .if2 .left) in
-    let at = c .before .before .before .locate .ensures in
-    let found = c .blend .ensures in
-    (rw (← e, eq-eqb _ 0 z, v, ← at, ← low, ← high, ← found), (sym z ∙ e, rw (← e, eq-eqb _ 0 z, v, ← at, ← low, ← high, ← found)))
+    let e = number (c .before .before .before .before) in
+    let s = signed (c .before .before .before .before .before .before) in
+    let z = c .before .before .before .if1 .left in
+    let v = eq-eqb _ 0 (c .before .before .if2 .left) in
+    let at = c .before .locate .ensures in
+    let found = rw (s .0, s .1) at (c .from-filled-rows .ensures) in
+    (rw (← e, eq-eqb _ 0 z, v, ← at, ← found), (sym z ∙ e, rw (← e, eq-eqb _ 0 z, v, ← at) found))
 
 pub card-lookup-spec : {M : Type 1} → statement M
 card-lookup-spec =
     tie.close
-    (tie.spec (λ c κs. search needs) returns returns-2 locate-requires card-row-requires card-row-requires-2
-    (λ c κs. search needs) returns-3)
+    (tie.spec (λ c κs. search needs) returns returns-2 locate-requires first-fits last-fits from-filled-rows-requires returns-3)

@@ -16,24 +16,20 @@ returns c =
 locate-requires : tie.Need-locate-requires
 locate-requires c κs = let a = accepted _ _ _ (sym (c .before .lookup-refusal .ensures) ∙ c .if1 .left) in (a .1, a .2)
 
-row-at-requires : tie.Need-row-at-requires
-row-at-requires c κs = (accepted _ _ _ (sym (c .before .before .lookup-refusal .ensures) ∙ c .before .if1 .left) .0, rw (c .locate .ensures) (low-in _ _))
-
-row-at-requires-2 : tie.Need-row-at-requires-2
-row-at-requires-2 c κs = (accepted _ _ _ (sym (c .before .before .before .lookup-refusal .ensures) ∙ c .before .before .if1 .left) .0, rw (c .before .locate .ensures) (high-in _ _))
+blend-at-requires : tie.Need-blend-at-requires
+blend-at-requires c κs =
+    let size = accepted _ _ _ (sym (c .before .before .lookup-refusal .ensures) ∙ c .before .if1 .left) .0 in
+    let at = c .locate .ensures in
+    (size, (rw at (low-in _ _), rw at (high-in _ _)))
 
 returns-2 : tie.Need-returns-2
 unfolding lookupNumber lookupValues gainLookupOf gainLookupValues
 returns-2 c =
-    let e = c .before .before .before .before .before .lookup-refusal .ensures in
-    let z = c .before .before .before .before .if1 .left in
-    let at = c .before .before .before .locate .ensures in
-    let low = c .before .before .row-at .ensures in
-    let high = c .before .row-at2 .ensures in
-    (rw (← e, eq-eqb _ 0 z, ← at, ← low, ← high, ← c .blend .ensures), (sym z ∙ e, rw (← e, eq-eqb _ 0 z, ← at, ← low, ← high, ← c .blend .ensures)))
+    let e = c .before .before .before .lookup-refusal .ensures in
+    let z = c .before .before .if1 .left in
+    let at = c .before .locate .ensures in
+    let found = c .blend-at .ensures in
+    (rw (← e, eq-eqb _ 0 z, ← at, ← found), (sym z ∙ e, rw (← e, eq-eqb _ 0 z, ← at, ← found)))
 
 pub gain-lookup-spec : {M : Type 1} → statement M
-gain-lookup-spec =
-    tie.close
-    (tie.spec (λ c κs. search needs) returns locate-requires row-at-requires row-at-requires-2
-    (λ c κs. search needs) returns-2)
+gain-lookup-spec = tie.close (tie.spec (λ c κs. search needs) returns locate-requires blend-at-requires returns-2)
