@@ -1,9 +1,11 @@
--- MHz from the first to below the last are cut to a row from the first to below the last; MHz from the last up are not below the first. Assumes nothing.
+-- MHz from the first to below the last are cut to a row from the first to below the last; from the last up they are not below the first.
+-- Assumes nothing.
 use Prim.Native.Nat.{ℕ, suc, _+_, _-_, _*_, _/_, _^_, _<_, _≤_, min}
 use mathlib.Core.Path.{_≡_, refl, sym, subst, _∙_}
 use mathlib.Core.Bool.{true, false}
 use native.Mathlib.Omega.{arith}
-use native.Mathlib.Nat.{le-div-iff-mul-le, div-lt-iff-lt-mul, mul-pos, mul-one, mul-le-mul-right, lt-of-lt-of-le, lt-of-not-le, le-of-eq, le-trans}
+use native.Mathlib.Nat.{le-div-iff-mul-le, div-lt-iff-lt-mul, mul-pos, mul-one, mul-le-mul-right}
+use native.Mathlib.Nat.{lt-of-lt-of-le, lt-of-not-le, le-of-eq, le-trans}
 use borrow.Author.Tests.{lt-ltb, le-ltb}
 use lib.Dec.{T, eqb, eqb→eq, lit≤}
 use lib.IntN.{ℤ, pos}
@@ -69,7 +71,8 @@ between-rows first last (fin false m e) a a′ b o l h =
     not-above : last * down e ≤ m * up e → ⊥
     not-above k =
         let k : last * down e ≤ m * up e * 1 = le-trans k (le-of-eq (sym (mul-one (m * up e)))) in
-        let t = le-of-values (whole last) (fin false m e) last 1 (m * up e) (down e) (lit≤ tt) (down-pos e) (whole-value last b) (refl, refl) k in
+        let w = whole-value last b in
+        let t = le-of-values (whole last) (fin false m e) last 1 (m * up e) (down e) (lit≤ tt) (down-pos e) w (refl, refl) k in
         subst T (sym (is-true (le (whole last) (fin false m e)) t) ∙ h) tt
 
 -- ---- from the last MHz up
@@ -79,7 +82,8 @@ at-least nan n m e v h = absurd v
 at-least (inf s) n m e v h = absurd v
 at-least (fin true k g) n m e v h = absurd (subst T (v .0) tt)
 at-least (fin false k g) n m e v h =
-    transfer n (m * up e) 1 (down e) (k * up g) (m * up e) (down g) (down e) (down-pos g) (down-pos e) (sym (v .1)) refl (or-le (k * up g * down e) (m * up e * down g) h)
+    let l : k * up g * down e ≤ m * up e * down g = or-le (k * up g * down e) (m * up e * down g) h in
+    transfer n (m * up e) 1 (down e) (k * up g) (m * up e) (down g) (down e) (down-pos g) (down-pos e) (sym (v .1)) refl l
 
 not-at-least : (y : Float) (n : ℕ) (m : ℕ) (e : ℤ) → 0 < n → HasValue y false n 1 → T (le y (fin true m e)) → ⊥
 unfolding le lt eq
@@ -88,7 +92,8 @@ not-at-least (inf s) n m e p v h = absurd v
 not-at-least (fin true k g) n m e p v h = absurd (subst T (v .0) tt)
 not-at-least (fin false k g) n m e p v h =
     let a : 0 < k * up g * down e = mul-pos (units-positive n (k * up g) (down g) p (down-pos g) (v .1)) (down-pos e) in
-    let z : k * up g * down e ≡ 0 = eqb→eq (k * up g * down e) 0 (and-r (eqb (k * up g * down e) (m * up e * down g)) (eqb (k * up g * down e) 0) h) in
+    let z : k * up g * down e ≡ 0 =
+    eqb→eq (k * up g * down e) 0 (and-r (eqb (k * up g * down e) (m * up e * down g)) (eqb (k * up g * down e) 0) h) in
     omega arith
 
 pub not-below-first : (first last : ℕ) (fmc : Float) → 1 ≤ first → first ≤ last → last ≤ 30 → outside fmc ≡ false
@@ -97,5 +102,6 @@ not-below-first first last nan a b d o h = absurd (within-mag nan o)
 not-below-first first last (inf s) a b d o h = absurd (within-mag (inf s) o)
 not-below-first first last (fin true m e) a b d o h = absurd (not-at-least (whole last) last m e (omega arith) (whole-value last d) (holds h))
 not-below-first first last (fin false m e) a b d o h =
-    not-lt-values (fin false m e) (whole first) (m * up e) (down e) first 1 (down-pos e) (lit≤ tt) (refl, refl) (whole-value first (omega arith))
+    let w = whole-value first (omega arith) in
+    not-lt-values (fin false m e) (whole first) (m * up e) (down e) first 1 (down-pos e) (lit≤ tt) (refl, refl) w
     (le-trans (mul-le-mul-right (down e) b) (at-least (whole last) last m e (whole-value last d) (holds h)))

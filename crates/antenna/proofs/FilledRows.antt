@@ -1,17 +1,16 @@
 -- Document 02, C-11, of a card's lookup: its sentences as theorems. Assumes nothing.
 use Prim.Native.Nat.{ℕ, suc, _-_, _<_, _≤_}
-use mathlib.Core.Path.{_≡_, refl, sym, ap, _∙_}
+use mathlib.Core.Path.{_≡_, refl, sym, _∙_}
 use mathlib.Core.Bool.{Bool, true, false, cond, not, _&&_}
 use mathlib.Core.List.{List}
+use mathlib.Core.Logic.{_≢_}
 use native.Mathlib.Omega.{arith}
 use native.Mathlib.Nat.{le-refl}
-use borrow.Author.Tests.{eqb-true, eq-eqb}
+use borrow.Author.Tests.{eqb-true, ne-eqb}
 use lib.Dec.{eqb}
 use lib.IntN.{ℤ, natAbs}
-use lib.ListN.{length}
 use lib.Ieee.{Float, lt, le}
 use Rattle.single.specs.Single.{whole}
-use Rattle.limits.specs.Refusals.{firstRefusal}
 use Rattle.limits.specs.Tests.{outside}
 use Rattle.table.specs.Range.{isRange, isFilled}
 use Rattle.table.specs.Table.{isTable}
@@ -24,6 +23,7 @@ use Rattle.antenna.specs.FilledRows.{SameFilled, aloneAt, fromFilledRows
 use Rattle.antenna.specs.Lookups.{gainLookupNumber, gainLookupValues, gainLookupOf}
 use Rattle.antenna.specs.Lookups.{answered, zeros, cardValues, cardLookupNumber, cardLookupValues, cardLookupOf}
 use Rattle.antenna.specs.declared.lookups.Lookup.the-variants.{Accepted}
+use Rattle.antenna.specs.declared.places.Place.{Place}
 use Rattle.antenna.proofs.Between.{between-rows, not-below-first}
 use Rattle.antenna.proofs.Bounds.{low-in, high-in}
 use Rattle.antenna.proofs.CardRows.{ends-in}
@@ -41,7 +41,9 @@ pub blends-filled : (first last : ℤ) (fmc delta : Float) → isRange first las
 blends-filled first last fmc delta e o low high =
     let r = range-of first last e in
     let b = between-filled (natAbs first) (natAbs last) fmc delta (r .low) (omega (arith, r .order, r .high)) (r .high) o low high in
-    (filled-between first last r _ (b .0) (omega (arith, b .1)), filled-between first last r _ (omega (arith, b .0, b .2)) (omega (arith, b .1, b .2)))
+    let p = placeOf fmc delta in
+    let lower = filled-between first last r (p .i) (b .0) (omega (arith, b .1)) in
+    (lower, filled-between first last r (p .ip1) (omega (arith, b .0, b .2)) (omega (arith, b .1, b .2)))
 
 -- ---- an accepted card
 module _ (first last : ℤ) (t : List Float) (fmc delta : Float) (r : isRange first last ≡ true) where
@@ -82,14 +84,15 @@ module _ (first last : ℤ) (t : List Float) (fmc delta : Float) (r : isRange fi
   unfolding cardLookupOf fromFilledRows
   last-row-alone z high =
       let g = range-of first last r in
-      let low = not-below-first (natAbs first) (natAbs last) fmc (g .low) (g .order) (g .high) (accepted t fmc delta z .1) high in
+      let o = accepted t fmc delta z .1 in
+      let low = not-below-first (natAbs first) (natAbs last) fmc (g .low) (g .order) (g .high) o high in
       rw (card-number, z, low, high) refl
 
 -- 'A refused card, having none, still gives zeros'
-pub refused-card-zeros : (first last : ℤ) (verdict : ℕ) (t : List Float) (fmc delta : Float) → lookupRefusal t fmc delta ≡ 0 → eqb verdict 0 ≡ false
+pub refused-card-zeros : (first last : ℤ) (verdict : ℕ) (t : List Float) (fmc delta : Float) → lookupRefusal t fmc delta ≡ 0 → verdict ≢ 0
     → cardLookupOf first last verdict t fmc delta ≡ Accepted zeros
 unfolding cardLookupOf
-refused-card-zeros first last verdict t fmc delta z v = rw (card-refusal first last verdict t fmc delta, z, v) refl
+refused-card-zeros first last verdict t fmc delta z v = rw (card-refusal first last verdict t fmc delta, z, ne-eqb verdict 0 v) refl
 
 -- ---- nothing but the filled rows counts: of any card and call, refused or not
 module _ (first last : ℤ) (verdict : ℕ) (t u : List Float) (fmc delta : Float) (s : SameFilled first last t u) where
@@ -99,7 +102,10 @@ module _ (first last : ℤ) (verdict : ℕ) (t u : List Float) (fmc delta : Floa
 
   row-same : (m j jp1 : ℕ) → InTable m j jp1 → isFilled first last m ≡ true → rowOf t m j jp1 ≡ rowOf u m j jp1
   unfolding rowOf
-  row-same m j jp1 i f = rw (s .gains m (j - 1) f (omega (arith, i .column, i .most)), s .gains m (jp1 - 1) f (omega (arith, i .next, i .end)), s .efficiencies m f) refl
+  row-same m j jp1 i f =
+      let gain = s .gains m (j - 1) f (omega (arith, i .column, i .most)) in
+      let above = s .gains m (jp1 - 1) f (omega (arith, i .next, i .end)) in
+      rw (gain, above, s .efficiencies m f) refl
 
   values-same : isRange first last ≡ true → outside fmc ≡ false → cardValues first last t fmc delta ≡ cardValues first last u fmc delta
   unfolding fromFilledRows
@@ -108,9 +114,16 @@ module _ (first last : ℤ) (verdict : ℕ) (t u : List Float) (fmc delta : Floa
       r : Range first last
       r = range-of first last e
 
-      go : (a b : Bool) → lt fmc (whole (natAbs first)) ≡ a → le (whole (natAbs last)) fmc ≡ b → cardValues first last t fmc delta ≡ cardValues first last u fmc delta
-      go true b low high = rw (low, row-same _ _ _ (ends-in first last fmc delta r .0) (filled-between first last r _ (le-refl _) (r .order))) refl
-      go false true low high = rw (low, high, row-same _ _ _ (ends-in first last fmc delta r .1) (filled-between first last r _ (r .order) (le-refl _))) refl
+      p : Place
+      p = placeOf fmc delta
+
+      ends : InTable (natAbs first) (p .j) (p .jp1) × InTable (natAbs last) (p .j) (p .jp1)
+      ends = ends-in first last fmc delta r
+
+      go : (a b : Bool) → lt fmc (whole (natAbs first)) ≡ a → le (whole (natAbs last)) fmc ≡ b
+          → cardValues first last t fmc delta ≡ cardValues first last u fmc delta
+      go true b low high = rw (low, row-same _ _ _ (ends .0) (filled-between first last r _ (le-refl _) (r .order))) refl
+      go false true low high = rw (low, high, row-same _ _ _ (ends .1) (filled-between first last r _ (r .order) (le-refl _))) refl
       go false false low high =
           let f = blends-filled first last fmc delta e o low high in
           rw (low, high, row-same _ _ _ (low-in fmc delta) (f .0), row-same _ _ _ (high-in fmc delta) (f .1)) refl
@@ -126,4 +139,5 @@ module _ (first last : ℤ) (verdict : ℕ) (t u : List Float) (fmc delta : Floa
       go true false e v = rw (e, v) refl
       go true true e v =
           let z = eqb-true (cardRefusal first last verdict u fmc delta) 0 e in
-          rw (e, v, values-same (card-range first last verdict u fmc delta z v) (card-accepted first last verdict u fmc delta z .1)) refl
+          let range = card-range first last verdict u fmc delta z v in
+          rw (e, v, values-same range (card-accepted first last verdict u fmc delta z .1)) refl

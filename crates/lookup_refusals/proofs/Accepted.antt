@@ -28,12 +28,15 @@ both true true e = absurd (never 1 e)
 both true false e = (refl, refl)
 both false b e = absurd (never 6 e)
 
-pub accepted : (t : List Float) (fmc delta : Float) → lookupRefusal t fmc delta ≡ 0 → (length t ≡ tableLength) × (outside fmc ≡ false) × (outside delta ≡ false)
+pub accepted : (t : List Float) (fmc delta : Float) → lookupRefusal t fmc delta ≡ 0
+    → (length t ≡ tableLength) × (outside fmc ≡ false) × (outside delta ≡ false)
 unfolding lookupRefusal firstRefusal isTable
 accepted t fmc delta e =
     let p = both (isTable t) (anyOutside (fmc ∷ delta ∷ [])) e in
     let q : (outside fmc || (outside delta || false)) ≡ false = unfold anyOutside in p .1 in
-    (eqb-true (length t) tableLength (p .0), or-left (outside fmc) (outside delta || false) q, or-left (outside delta) false (or-right (outside fmc) (outside delta || false) q))
+    let frequency = or-left (outside fmc) (outside delta || false) q in
+    let elevation = or-left (outside delta) false (or-right (outside fmc) (outside delta || false) q) in
+    (eqb-true (length t) tableLength (p .0), frequency, elevation)
 
 card-from : (a b c : Bool) → _≡_ {A = ℕ} (cond (not a) 7 (cond b 2 (cond c 4 0))) (cond (eqb (plain a b) 0) (cond c 4 0) (plain a b))
 card-from true true c = refl
@@ -41,7 +44,9 @@ card-from true false c = refl
 card-from false b c = refl
 
 -- a card's tests come after the plain lookup's
-pub card-refusal : (first last : ℤ) (verdict : ℕ) (t : List Float) (fmc delta : Float) → cardRefusal first last verdict t fmc delta ≡ cond (eqb (lookupRefusal t fmc delta) 0) (cond (eqb verdict 0 && not (isRange first last)) 4 0) (lookupRefusal t fmc delta)
+pub card-refusal : (first last : ℤ) (verdict : ℕ) (t : List Float) (fmc delta : Float)
+    → cardRefusal first last verdict t fmc delta
+    ≡ cond (eqb (lookupRefusal t fmc delta) 0) (cond (eqb verdict 0 && not (isRange first last)) 4 0) (lookupRefusal t fmc delta)
 unfolding lookupRefusal cardRefusal firstRefusal
 card-refusal first last verdict t fmc delta = card-from (isTable t) (anyOutside (fmc ∷ delta ∷ [])) (eqb verdict 0 && not (isRange first last))
 
@@ -52,7 +57,8 @@ before n m e = go (eqb n 0) (eqb-true n 0) e
     go true f h = f refl
     go false f h = h
 
-pub card-accepted : (first last : ℤ) (verdict : ℕ) (t : List Float) (fmc delta : Float) → cardRefusal first last verdict t fmc delta ≡ 0 → (length t ≡ tableLength) × (outside fmc ≡ false) × (outside delta ≡ false)
+pub card-accepted : (first last : ℤ) (verdict : ℕ) (t : List Float) (fmc delta : Float)
+    → cardRefusal first last verdict t fmc delta ≡ 0 → (length t ≡ tableLength) × (outside fmc ≡ false) × (outside delta ≡ false)
 card-accepted first last verdict t fmc delta e = accepted t fmc delta (before (lookupRefusal t fmc delta) _ (rw card-refusal at e))
 
 four : (r : Bool) → _≡_ {A = ℕ} (cond (not r) 4 0) 0 → r ≡ true

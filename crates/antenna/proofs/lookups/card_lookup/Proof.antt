@@ -15,10 +15,13 @@ use Rattle.antenna.proofs.lookups.card_lookup.Statement.{statement}
 use Rattle.antenna.proofs.lookups.card_lookup.Tie as tie
 
 -- the first and the last MHz as the machine reads them back
-signed : (c : tie.Start) → (toZ w32 (ofZ w32 (c .args .first)) ≡ c .args .first) × (toZ w32 (ofZ w32 (c .args .last)) ≡ c .args .last)
+signed : (c : tie.Start)
+    → (toZ w32 (ofZ w32 (c .args .first)) ≡ c .args .first) × (toZ w32 (ofZ w32 (c .args .last)) ≡ c .args .last)
 signed c = (toZ-ofZ w32 _ (search needs), toZ-ofZ w32 _ (search needs))
 
-number : (c : tie.After-card-refusal) → let a = c .before .before .args in c .card-refusal .result ≡ cardLookupNumber (a .first) (a .last) (a .verdict) (a .table .now) (a .fmc) (a .delta)
+number : (c : tie.After-card-refusal)
+    → let a = c .before .before .args in
+    c .card-refusal .result ≡ cardLookupNumber (a .first) (a .last) (a .verdict) (a .table .now) (a .fmc) (a .delta)
 number c = let r = signed (c .before .before) in rw (r .0, r .1) at (c .card-refusal .ensures)
 
 returns : tie.Need-returns
@@ -43,7 +46,9 @@ range c =
     range-of _ _ (card-range _ _ _ _ _ _ (sym (number (c .before .before .before)) ∙ z) (eq-eqb _ 0 (c .before .if2 .left)))
 
 first-fits : tie.Need-cast-from-filled-rows
-first-fits c = let r = range c in end-fits _ _ (signed (c .before .before .before .before .before) .0) (r .firstWhole) (omega (arith, r .order, r .high))
+first-fits c =
+    let r = range c in
+    end-fits _ _ (signed (c .before .before .before .before .before) .0) (r .firstWhole) (omega (arith, r .order, r .high))
 
 last-fits : tie.Need-cast-from-filled-rows-2
 last-fits c = let r = range c in end-fits _ _ (signed (c .before .before .before .before .before) .1) (r .lastWhole) (r .high)
