@@ -152,8 +152,8 @@ fn row_alone(c: &Call) -> Option<i32> {
     None
 }
 
-/// One row between its columns. Nothing is blended in MHz, so that a -0 stays one
-/// and an infinity in another row does not count.
+/// One row between its columns. Nothing is done in MHz, where a -0 or an infinity
+/// would be lost.
 fn lookup_in_row(table: &GainTable, mhz: i32, elevation: f32) -> (u32, f32, f32) {
     let row = (mhz - 1) as usize;
     let degrees = elevation * R2D;

@@ -29,8 +29,8 @@ unfolding ofInt
 whole-value n h = round-whole binary32 false n (le-trans h (lit≤ tt))
 
 -- ---- a number below zero is below every positive one
-units-positive : (n k d : ℕ) → 0 < n → 0 < d → k * 1 ≡ n * d → 0 < k
-units-positive n k d p q e = lt-of-lt-of-le (mul-pos p q) (le-of-eq (sym e ∙ mul-one k))
+positive-value : (n k : ℕ) (g e : ℤ) → 0 < n → HasValue (fin false k g) false n 1 → 0 < k * up g * down e
+positive-value n k g e p v = mul-pos (lt-of-lt-of-le (mul-pos p (down-pos g)) (le-of-eq (sym (v .1) ∙ mul-one (k * up g)))) (down-pos e)
 
 minus-below : (m : ℕ) (e : ℤ) (y : Float) (n : ℕ) → 0 < n → HasValue y false n 1 → lt (fin true m e) y ≡ true
 unfolding lt
@@ -38,7 +38,7 @@ minus-below m e nan n p v = absurd v
 minus-below m e (inf s) n p v = absurd v
 minus-below m e (fin true k g) n p v = absurd (subst T (v .0) tt)
 minus-below m e (fin false k g) n p v =
-    let u : 0 < k * up g * down e = mul-pos (units-positive n (k * up g) (down g) p (down-pos g) (v .1)) (down-pos e) in
+    let u : 0 < k * up g * down e = positive-value n k g e p v in
     lt-ltb 0 (m * up e * down g + k * up g * down e) (omega arith)
 
 -- ---- the row
@@ -53,15 +53,15 @@ unclamped q low high a b c d =
     let s : min q (2 ^ 31 - 1) ≡ q = omega arith in
     rw (s, le-ltb q 1 (omega arith), lt-ltb q 30 (omega arith)) (refl, refl)
 
-pub between-rows : (first last : ℕ) (fmc : Float) → 1 ≤ first → first ≤ 30 → last ≤ 30 → outside fmc ≡ false
+pub cut-between : (first last : ℕ) (fmc : Float) → 1 ≤ first → first ≤ 30 → last ≤ 30 → outside fmc ≡ false
     → lt fmc (whole first) ≡ false → le (whole last) fmc ≡ false
     → let i = clamped (cutToward fmc) 30 in (first ≤ i) × (i < last) × (nextOf i 30 ≡ suc i)
 unfolding cutToward toSigned
-between-rows first last nan a a′ b o l h = absurd (within-mag nan o)
-between-rows first last (inf s) a a′ b o l h = absurd (within-mag (inf s) o)
-between-rows first last (fin true m e) a a′ b o l h =
+cut-between first last nan a a′ b o l h = absurd (within-mag nan o)
+cut-between first last (inf s) a a′ b o l h = absurd (within-mag (inf s) o)
+cut-between first last (fin true m e) a a′ b o l h =
     absurd (subst T (sym (minus-below m e (whole first) first a (whole-value first a′)) ∙ l) tt)
-between-rows first last (fin false m e) a a′ b o l h =
+cut-between first last (fin false m e) a a′ b o l h =
     let f : first * down e ≤ m * up e * 1 =
     ge-values (fin false m e) (whole first) (m * up e) (down e) first 1 (down-pos e) (lit≤ tt) (refl, refl) (whole-value first a′) l in
     let q = positive-cut m e first last (le-trans f (le-of-eq (mul-one (m * up e)))) (lt-of-not-le not-above) in
@@ -91,7 +91,7 @@ not-at-least nan n m e p v h = absurd v
 not-at-least (inf s) n m e p v h = absurd v
 not-at-least (fin true k g) n m e p v h = absurd (subst T (v .0) tt)
 not-at-least (fin false k g) n m e p v h =
-    let a : 0 < k * up g * down e = mul-pos (units-positive n (k * up g) (down g) p (down-pos g) (v .1)) (down-pos e) in
+    let u : 0 < k * up g * down e = positive-value n k g e p v in
     let z : k * up g * down e ≡ 0 =
     eqb→eq (k * up g * down e) 0 (and-r (eqb (k * up g * down e) (m * up e * down g)) (eqb (k * up g * down e) 0) h) in
     omega arith

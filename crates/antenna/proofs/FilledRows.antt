@@ -24,7 +24,7 @@ use Rattle.antenna.specs.Lookups.{gainLookupNumber, gainLookupValues, ga
 use Rattle.antenna.specs.Lookups.{answered, zeros, cardValues, cardLookupNumber, cardLookupValues, cardLookupOf}
 use Rattle.antenna.specs.declared.lookups.Lookup.the-variants.{Accepted}
 use Rattle.antenna.specs.declared.places.Place.{Place}
-use Rattle.antenna.proofs.Between.{between-rows, not-below-first}
+use Rattle.antenna.proofs.Between.{cut-between, not-below-first}
 use Rattle.antenna.proofs.Bounds.{low-in, high-in}
 use Rattle.antenna.proofs.CardRows.{ends-in}
 
@@ -33,7 +33,7 @@ pub between-filled : (first last : ℕ) (fmc delta : Float) → 1 ≤ first → 
     → lt fmc (whole first) ≡ false → le (whole last) fmc ≡ false
     → let p = placeOf fmc delta in (first ≤ p .i) × (p .i < last) × (p .ip1 ≡ suc (p .i))
 unfolding placeOf
-between-filled first last fmc delta a b d o low high = between-rows first last fmc a b d o low high
+between-filled first last fmc delta a b d o low high = cut-between first last fmc a b d o low high
 
 pub blends-filled : (first last : ℤ) (fmc delta : Float) → isRange first last ≡ true → outside fmc ≡ false
     → lt fmc (whole (natAbs first)) ≡ false → le (whole (natAbs last)) fmc ≡ false

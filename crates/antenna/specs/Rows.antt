@@ -36,6 +36,6 @@ blended low high xfmc xdelta =
 abbrev pub blendedAt : Place → (ℕ → ℕ → ℕ → Row) → GainEfficiency
 blendedAt p row = blended (row (p .i) (p .j) (p .jp1)) (row (p .ip1) (p .j) (p .jp1)) (p .xfmc) (p .xdelta)
 
--- one row 'alone': 'angles blend as before', and nothing is done in MHz, so that a -0.0 stays one and no neighbour counts
+-- one row 'alone': 'angles blend as before', and nothing is done in MHz, so no other row counts and the efficiency keeps its bits
 unfoldable pub rowAlone : Row → Float → GainEfficiency
 rowAlone row xdelta = record { gain = between xdelta (row .gain) (row .above); efficiency = row .efficiency }

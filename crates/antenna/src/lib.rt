@@ -1,4 +1,4 @@
-// Lookups in a table: document 01 section 9.
+// Lookups in a table: document 01 section 9, a card's as document 02 (C-11) has it.
 mod byte_lookup;
 mod filled_rows;
 mod lookups;
