@@ -5,14 +5,14 @@ ghost use Rattle.angles.specs.Angles.{wave_of, radians_of, azimuth_of, elevation
 // constants.rs's, one step below the f32 nearest to pi.
 pub const PI: f32 = 3.1415926;
 
-#[derive(Drop)]
+#[derive(Clone, Copy)]
 pub struct Azimuth {
     pub reta: f32,
     pub sb: f32,
     pub cb: f32,
 }
 
-#[derive(Drop)]
+#[derive(Clone, Copy)]
 pub struct Elevation {
     pub t: f32,
     pub q: f32,

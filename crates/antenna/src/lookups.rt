@@ -8,7 +8,7 @@ use crate::places::locate;
 use crate::rows::{GainEfficiency, blend_at};
 use lookup_refusals::{card_refusal, lookup_refusal};
 
-#[derive(Drop)]
+#[derive(Clone, Copy)]
 pub enum Lookup {
     Accepted(GainEfficiency),
     Refused(u32),

@@ -8,7 +8,7 @@ ghost use Rattle.antenna.specs.Places.{clamped, next_of, place_of};
 const R2D: f32 = 57.295779513;
 
 // The Rust's names. Rows and columns count from 1.
-#[derive(Drop)]
+#[derive(Clone, Copy)]
 pub(crate) struct Place {
     pub i: usize,
     pub ip1: usize,

@@ -5,14 +5,14 @@ ghost use Rattle.antenna.specs.Rows.{InTable, row_of, row_alone, blended, blende
 
 use crate::places::Place;
 
-#[derive(Drop)]
+#[derive(Clone, Copy)]
 pub struct GainEfficiency {
     pub gain: f32,
     pub efficiency: f32,
 }
 
 // The gains at a column and at the next one, and the efficiency.
-#[derive(Drop)]
+#[derive(Clone, Copy)]
 pub(crate) struct Row {
     pub gain: f32,
     pub above: f32,

@@ -8,7 +8,7 @@ use parameters::{IoncapParams, Model};
 
 // The leg and the height by kind, read from the parameters' `anl` and `anh`. Type 2's `anh` stays a
 // plain gain.
-#[derive(Drop)]
+#[derive(Clone, Copy)]
 pub struct Antenna {
     pub kop: i32,
     pub params: IoncapParams,

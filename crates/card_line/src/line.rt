@@ -11,14 +11,14 @@ use parameters::Model;
 const BYTES: usize = 119;
 
 // Where the line is malformed, its fields are those of no card: zeros.
-#[derive(Drop)]
+#[derive(Clone, Copy)]
 pub struct Line {
     pub well_formed: bool,
     pub fields: Fields,
 }
 
 // The values of the ten fields of 11 columns, where all of them are numbers.
-#[derive(Drop)]
+#[derive(Clone, Copy)]
 struct Decimals {
     well_formed: bool,
     values: [f32; 10],

@@ -8,7 +8,7 @@ use lengths::Length;
 use parameters::{IoncapParams, Model};
 
 // `params` are the slots as `ioninit` reads them, `toaz` the off-azimuth in degrees.
-#[derive(Drop)]
+#[derive(Clone, Copy)]
 pub struct Card {
     pub kop: i32,
     pub first: i32,

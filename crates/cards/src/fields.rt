@@ -8,7 +8,7 @@ const MOST: i32 = 1000;
 
 // As document 01 says it: the type, the first and the last MHz, the off-azimuth in degrees, 20
 // slots and the model.
-#[derive(Drop)]
+#[derive(Clone, Copy)]
 pub struct Fields {
     pub kop: i32,
     pub first: i32,

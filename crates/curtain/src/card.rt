@@ -5,7 +5,7 @@ ghost use Rattle.curtain.specs.Card.{count_of, card_from, card_of};
 
 // `nn` pairs of bays and, if the bays are odd, `ep` = 1 and `nep` = 1 for the one in the middle; `m`
 // elements.
-#[derive(Drop)]
+#[derive(Clone, Copy)]
 pub struct CurtainCard {
     pub ep: f32,
     pub nep: u8,

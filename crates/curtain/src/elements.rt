@@ -6,27 +6,27 @@ use angles::PI;
 use reflection::Ground;
 
 // CA and SA of the elements; the rest of the ten stay 0.
-#[derive(Drop)]
+#[derive(Clone, Copy)]
 pub(crate) struct Waves {
     ca: [f32; 10],
     sa: [f32; 10],
 }
 
-#[derive(Drop)]
+#[derive(Clone, Copy)]
 struct Sums {
     real: f32,
     imag: f32,
 }
 
 // Of the horizontal and of the vertical part.
-#[derive(Drop)]
+#[derive(Clone, Copy)]
 struct BothSums {
     h: Sums,
     v: Sums,
 }
 
 // The horizontal and the vertical field.
-#[derive(Drop)]
+#[derive(Clone, Copy)]
 pub(crate) struct EhEv {
     pub eh: f32,
     pub ev: f32,

@@ -3,7 +3,7 @@ ghost use Rattle.std.specs.Prelude.{◌≡◌};
 ghost use Rattle.curtain.specs.Gain.{rain_of, sok_of};
 
 // Floor: near the vertical, where the element slot is added. Weak: nothing is added.
-#[derive(Drop)]
+#[derive(Clone, Copy)]
 pub enum CurtainGain {
     Floor,
     Weak,

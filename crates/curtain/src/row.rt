@@ -6,7 +6,7 @@ use angles::{Azimuth, PI};
 
 // `cfac` is the leg's cosine, `facsb` and `facdx` are what stays of two products when the
 // elevation's cosine is taken out of them, `fac3` is the bays' phase.
-#[derive(Drop)]
+#[derive(Clone, Copy)]
 pub struct CurtainRow {
     pub cfac: f32,
     pub facsb: f32,

@@ -6,7 +6,7 @@ use column_sines::column_sines;
 use table::COLUMNS;
 
 // In radians, with their cosines and sines.
-#[derive(Drop)]
+#[derive(Clone, Copy)]
 pub(crate) struct Columns {
     pub deltas: [f32; COLUMNS],
     pub cosines: [f32; COLUMNS],

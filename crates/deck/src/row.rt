@@ -10,7 +10,7 @@ use rows::{Row, RowAnswer};
 use table::{COLUMNS, GAINS};
 
 // `refusal` is 0 if there is none; `height` is the one left.
-#[derive(Drop)]
+#[derive(Clone, Copy)]
 pub(crate) struct Filled {
     pub refusal: u32,
     pub height: f32,

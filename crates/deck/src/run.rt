@@ -12,7 +12,7 @@ use deck_state::{Deck, deck_refusal, refused_deck};
 const MALFORMED: u32 = 8;
 
 // What the run of a card or of a malformed line answers. `verdict` is the refusal number, 0 if accepted.
-#[derive(Drop)]
+#[derive(Clone, Copy)]
 pub struct CardAnswer {
     pub deck: Deck,
     pub verdict: u32,

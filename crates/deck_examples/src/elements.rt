@@ -8,7 +8,7 @@ use crate::text::{print, print_number};
 use table::{COLUMNS, GAINS};
 
 // How many numbers differ, and how many of them are gains straight up.
-#[derive(Drop)]
+#[derive(Clone, Copy)]
 struct Differences {
     all: u64,
     up: u64,

@@ -7,7 +7,7 @@ use antenna::Lookup;
 use table::{COLUMNS, GAINS, TABLE_LENGTH};
 
 // What a card's lookup takes beside the table.
-#[derive(Drop)]
+#[derive(Clone, Copy)]
 struct CardRange {
     first: i32,
     last: i32,

@@ -44,7 +44,7 @@ fn print_differences(entry: usize, with: &[f32], without: &[f32]) -> u64
 }
 
 // Both decks after an entry, and how much of it differs.
-#[derive(Drop)]
+#[derive(Clone, Copy)]
 struct Decks {
     with: Deck,
     without: Deck,

@@ -7,7 +7,7 @@ ghost use Rattle.deck_state.specs.DeckState.{deck_of, state_of, is_full, deck_re
 const COUNT_LIMIT: u64 = 1_000_000;
 
 // The term "deck" of section 8.
-#[derive(Drop)]
+#[derive(Clone, Copy)]
 pub struct Deck {
     pub height: f32,
     pub accepted: u32,

@@ -8,7 +8,7 @@ use integrals::{IntegralPair, Integrals, Turns, integral_pair};
 
 // `cfac` is the cosine of the leg's phase `fac`, `scale` is 120 over the resistance `xr`, and
 // `hwave2` twice the height's phase.
-#[derive(Drop)]
+#[derive(Clone, Copy)]
 pub struct Dipole {
     pub fac: f32,
     pub cfac: f32,
@@ -16,7 +16,7 @@ pub struct Dipole {
     pub hwave2: f32,
 }
 
-#[derive(Drop)]
+#[derive(Clone, Copy)]
 pub enum DipoleRow {
     Settled(Dipole, Turns),
     Unsettled,

@@ -10,19 +10,19 @@ ghost use Rattle.single.specs.Answer.{IsAnswer};
 use crate::nearest::ten_thousandths;
 
 // A sign and a magnitude: the sign of -0.5 would be lost with its whole part.
-#[derive(Drop)]
+#[derive(Clone, Copy)]
 enum Signed {
     Read(bool, u64),
     Unread,
 }
 
-#[derive(Drop)]
+#[derive(Clone, Copy)]
 pub enum Integer {
     Number(i64),
     Malformed,
 }
 
-#[derive(Drop)]
+#[derive(Clone, Copy)]
 pub enum Decimal {
     Value(f32),
     Malformed,

@@ -11,7 +11,7 @@ ghost use Rattle.finish.specs.Finish.{
 // The least gain that is reported, dB.
 pub const FLOOR: f32 = -30.0;
 
-#[derive(Drop)]
+#[derive(Clone, Copy)]
 pub struct Finished {
     pub gain: f32,
     pub efficiency: f32,

@@ -13,7 +13,7 @@ use integrals::Turns;
 use rows::{Row, RowAnswer};
 
 // `height` is the one left, `turns` the most of an integral's series.
-#[derive(Drop)]
+#[derive(Clone, Copy)]
 pub struct Call {
     pub gain: f32,
     pub efficiency: f32,
@@ -21,7 +21,7 @@ pub struct Call {
     pub turns: Turns,
 }
 
-#[derive(Drop)]
+#[derive(Clone, Copy)]
 pub enum Worked {
     Settled(Call),
     Unsettled,

@@ -9,7 +9,7 @@ use listing::{MOST_HELD, ROOM, Session};
 use table::TABLE_LENGTH;
 
 // Text not written yet ends at `at`. The run ends with the input, or where a read or write failed.
-#[derive(Drop)]
+#[derive(Clone, Copy)]
 struct State {
     session: Session,
     at: usize,

@@ -8,21 +8,21 @@ use crate::rational::{Integrals, rational};
 use crate::series::{SeriesSum, ci_series, si_series};
 
 // The turns of each series; 0 for the rational form.
-#[derive(Drop)]
+#[derive(Clone, Copy)]
 pub struct Turns {
     pub ci: u32,
     pub si: u32,
 }
 
 // Of any f32.
-#[derive(Drop)]
+#[derive(Clone, Copy)]
 pub enum Computed {
     Settled(Integrals, Turns),
     Unsettled,
 }
 
 // Of an argument that may be outside the limits.
-#[derive(Drop)]
+#[derive(Clone, Copy)]
 pub enum Answer {
     Accepted(Integrals),
     OutsideLimits,

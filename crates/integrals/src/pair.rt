@@ -6,7 +6,7 @@ ghost use Rattle.single.specs.Answer.{IsAnswer};
 use crate::entry::{Computed, Turns, integrals_of};
 use crate::rational::Integrals;
 
-#[derive(Drop)]
+#[derive(Clone, Copy)]
 pub enum IntegralPair {
     Settled(Integrals, Integrals, Turns),
     Unsettled,

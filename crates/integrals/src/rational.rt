@@ -2,7 +2,7 @@
 ghost use Rattle.std.specs.Prelude.{◌≡◌};
 ghost use Rattle.integrals.specs.Rational.{rational_of};
 
-#[derive(Drop)]
+#[derive(Clone, Copy)]
 pub struct Integrals {
     pub ci: f32,
     pub si: f32,

@@ -8,7 +8,7 @@ ghost use Rattle.single.specs.Single.{num};
 const MOST_TURNS: u32 = 8;
 
 // A settled sum with the turns made.
-#[derive(Drop)]
+#[derive(Clone, Copy)]
 pub enum SeriesSum {
     Settled(f32, u32),
     Unsettled,

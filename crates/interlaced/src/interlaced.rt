@@ -8,7 +8,7 @@ use reflection::Ground;
 use rhombics::{Legs, elfac};
 
 // The second rhombic against the first, at a MHz.
-#[derive(Drop)]
+#[derive(Clone, Copy)]
 pub struct Offset {
     pub ss: f32,
     pub d: f32,

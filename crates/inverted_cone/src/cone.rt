@@ -6,7 +6,7 @@ ghost use Rattle.inverted_cone.specs.InvertedCone.{cone_gain_number, cone_gain_v
 
 use crate::cone_table::{CONE, CONE_ELEVS, CONE_FREQS};
 
-#[derive(Drop)]
+#[derive(Clone, Copy)]
 pub enum ConeGain {
     Accepted(f32),
     Refused(u32),
@@ -42,7 +42,7 @@ fn upper(x: f32, bounds: &[f32]) -> usize
 }
 
 // The gains of columns ifr and ifr - 1 in two rows.
-#[derive(Drop)]
+#[derive(Clone, Copy)]
 struct Corners {
     low_gain: f32,
     low_before: f32,

@@ -11,7 +11,7 @@ use resistance::{Resistance, resistance_of};
 
 // What a row's cells take: the phases of the leg, twice over, and of the height; cosine and sine of
 // the first and of their sum; the radiation resistance. Beside these the efficiency in dB.
-#[derive(Drop)]
+#[derive(Clone, Copy)]
 pub struct InvertedL {
     pub fac2: f32,
     pub hwave: f32,
@@ -23,7 +23,7 @@ pub struct InvertedL {
     pub eff8: f32,
 }
 
-#[derive(Drop)]
+#[derive(Clone, Copy)]
 pub enum InvertedLRow {
     Settled(InvertedL, Turns),
     Unsettled,

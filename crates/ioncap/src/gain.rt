@@ -9,7 +9,7 @@ use gain_core::{Worked, work};
 use parameters::{IoncapParams, Model};
 
 // Elevation in radians, off-azimuth in degrees.
-#[derive(Drop)]
+#[derive(Clone, Copy)]
 pub struct GainCall {
     pub kop: i32,
     pub toaz: f32,
@@ -20,14 +20,14 @@ pub struct GainCall {
 }
 
 // `height` is the one left.
-#[derive(Drop)]
+#[derive(Clone, Copy)]
 pub struct Answer {
     pub gain: f32,
     pub efficiency: f32,
     pub height: f32,
 }
 
-#[derive(Drop)]
+#[derive(Clone, Copy)]
 pub enum Gain {
     Accepted(Answer),
     Refused(u32),

@@ -2,35 +2,35 @@
 ghost use Rattle.std.specs.Prelude.{◌≡◌};
 ghost use Rattle.lengths.specs.Length.{height_slot_of, length_of, leg_of, phase_of, height_of, monopole_of};
 
-#[derive(Drop)]
+#[derive(Clone, Copy)]
 pub enum Length {
     Metres(f32),
     Wavelengths(f32),
 }
 
 // A leg's phase `fac`, 3.1416 to the wavelength, and its wavelengths `el1`.
-#[derive(Drop)]
+#[derive(Clone, Copy)]
 pub struct LegInWaves {
     pub fac: f32,
     pub el1: f32,
 }
 
 // A height's phase and its wavelengths.
-#[derive(Drop)]
+#[derive(Clone, Copy)]
 pub struct PhaseInWaves {
     pub phase: f32,
     pub waves: f32,
 }
 
 // A height's phase `hwave`, 6.2832 to the wavelength, and its wavelengths `h1`.
-#[derive(Drop)]
+#[derive(Clone, Copy)]
 pub struct HeightInWaves {
     pub hwave: f32,
     pub h1: f32,
 }
 
 // The height of types 2 and 5: the phase `a`, 6.283185 to the wavelength, and the wavelengths `x`.
-#[derive(Drop)]
+#[derive(Clone, Copy)]
 pub struct MonopoleInWaves {
     pub a: f32,
     pub x: f32,

@@ -16,7 +16,7 @@ use deck::{CardAnswer, Deck};
 // From here on a place prints as stars.
 const MOST_LISTED: u32 = 10_000_000;
 
-#[derive(Drop)]
+#[derive(Clone, Copy)]
 pub(crate) struct Listed {
     pub session: Session,
     pub at: usize,

@@ -7,7 +7,7 @@ ghost use Rattle.listing.specs.Gathering.{GatherDone};
 // A line of more than 119 bytes is malformed, so no more than these are held.
 pub const MOST_HELD: usize = 120;
 
-#[derive(Drop)]
+#[derive(Clone, Copy)]
 pub(crate) struct Gathered {
     pub whole: bool,
     pub held: usize,

@@ -12,7 +12,7 @@ use deck::Deck;
 pub const ROOM: usize = 569;
 
 // `listed` cards so far; `held` bytes of a line that isn't whole yet, in a buffer lent to each call.
-#[derive(Drop)]
+#[derive(Clone, Copy)]
 pub struct Session {
     pub deck: Deck,
     pub listed: u32,
@@ -20,7 +20,7 @@ pub struct Session {
 }
 
 // `used` bytes of the piece were taken; the text ends at `at`.
-#[derive(Drop)]
+#[derive(Clone, Copy)]
 pub struct Stepped {
     pub session: Session,
     pub used: usize,

@@ -6,7 +6,7 @@ ghost use Rattle.single.proofs.Positive.{normal_units};
 ghost use Rattle.logarithm.specs.Logarithm.{ln_at, ln_from, logarithm, logarithm10};
 
 // Digits from 0.70710677 up and below 1.4142135, and the exponent's field that goes with them.
-#[derive(Drop)]
+#[derive(Clone, Copy)]
 struct Digits {
     m: f32,
     e: u32,

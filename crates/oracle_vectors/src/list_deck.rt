@@ -10,13 +10,13 @@ use table::{COLUMNS, GAINS, ROWS, TABLE_LENGTH};
 const BEFORE: f32 = 1.0;
 
 // What a line leaves to the next: the deck, and the row that a line of a row is compared with.
-#[derive(Drop)]
+#[derive(Clone, Copy)]
 pub(crate) struct Carried {
     pub(crate) deck: Deck,
     pub(crate) row: usize,
 }
 
-#[derive(Drop)]
+#[derive(Clone, Copy)]
 pub(crate) struct Compared {
     pub(crate) equal: bool,
     pub(crate) carried: Carried,

@@ -17,7 +17,7 @@ use list_deck::{Carried, Compared};
 use table::TABLE_LENGTH;
 use vectors::{MOST_LINES, Tally};
 
-#[derive(Drop)]
+#[derive(Clone, Copy)]
 enum List {
     Elementary,
     Integrals,

@@ -4,7 +4,7 @@ ghost use Rattle.std.specs.Float.{binary32};
 ghost use Rattle.std.specs.Float.Ieee.{lt};
 ghost use Rattle.output.specs.Hundredths.{hundredths_of, size_of};
 
-#[derive(Drop)]
+#[derive(Clone, Copy)]
 pub enum Hundredths {
     NotANumber,
     // Infinite, or from 2^56 on in magnitude.

@@ -27,7 +27,7 @@ fn magnitude(v: i64) -> u64
     }
 }
 
-#[derive(Drop)]
+#[derive(Clone, Copy)]
 enum Start {
     At(usize),
     TooLong,

@@ -3,12 +3,12 @@ ghost use Rattle.std.specs.Prelude.{◌≡◌};
 ghost use Rattle.parameters.specs.Model.{model_of, curtain_elevation_threshold};
 
 // The defects that a measurement corrects, of which the curtain's is the only one here.
-#[derive(Drop)]
+#[derive(Clone, Copy)]
 pub struct Fixes {
     pub curtain_elevation: bool,
 }
 
-#[derive(Drop)]
+#[derive(Clone, Copy)]
 pub enum Model {
     Compatible,
     Corrected,

@@ -2,7 +2,7 @@
 ghost use Rattle.std.specs.Prelude.{◌≡◌};
 ghost use Rattle.parameters.specs.Params.{params_of, ioninit_of};
 
-#[derive(Drop)]
+#[derive(Clone, Copy)]
 pub struct IoncapParams {
     // Ground conductivity, mhos/metre.
     pub asig: f32,

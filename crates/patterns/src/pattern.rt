@@ -19,7 +19,7 @@ use slopes::Slope;
 use verticals::{Monopole, MonopoleRow};
 
 // What a row's cells take, by type. Other: a type outside 1 to 10, which has no pattern.
-#[derive(Drop)]
+#[derive(Clone, Copy)]
 pub enum Pattern {
     Rhombic(Legs),
     Interlaced(Legs, Offset),
@@ -33,7 +33,7 @@ pub enum Pattern {
 }
 
 // With the most turns of an integral's series.
-#[derive(Drop)]
+#[derive(Clone, Copy)]
 pub enum PatternAnswer {
     Settled(Pattern, Turns),
     Unsettled,

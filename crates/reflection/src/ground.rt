@@ -14,7 +14,7 @@ use angles::Elevation;
 use elementary::SineCosine;
 
 // Magnitudes ch and cv, phases psih and psiv.
-#[derive(Drop)]
+#[derive(Clone, Copy)]
 pub struct Ground {
     pub ch: f32,
     pub cv: f32,
@@ -23,7 +23,7 @@ pub struct Ground {
 }
 
 // er - cos^2 - jx: its magnitude rho, the root of that, and its phase alpha.
-#[derive(Drop)]
+#[derive(Clone, Copy)]
 struct Refraction {
     rho: f32,
     rho12: f32,
@@ -31,7 +31,7 @@ struct Refraction {
 }
 
 // A reflection coefficient.
-#[derive(Drop)]
+#[derive(Clone, Copy)]
 struct Coefficient {
     magnitude: f32,
     phase: f32,

@@ -2,7 +2,7 @@
 ghost use Rattle.std.specs.Prelude.{◌≡◌};
 ghost use Rattle.reflection.specs.Soil.{soil_of};
 
-#[derive(Drop)]
+#[derive(Clone, Copy)]
 pub struct Soil {
     pub er: f32,
     pub x: f32,

@@ -7,7 +7,7 @@ ghost use Rattle.resistance.specs.Resistance.{cin_of, resistance_from, resistanc
 
 use integrals::{IntegralPair, Integrals, Turns};
 
-#[derive(Drop)]
+#[derive(Clone, Copy)]
 pub enum Resistance {
     Settled(f32, Turns),
     Unsettled,

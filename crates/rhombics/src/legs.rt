@@ -5,7 +5,7 @@ ghost use Rattle.rhombics.specs.Legs.{legs_of, elfac_of};
 use angles::{Azimuth, Elevation};
 use elementary::SineCosine;
 
-#[derive(Drop)]
+#[derive(Clone, Copy)]
 pub struct Legs {
     pub sb: f32,
     pub cb: f32,

@@ -14,7 +14,7 @@ use reflection::Soil;
 
 // `x` is the height that its cells leave, `sok` the offset (the curtain adds it at the floor alone),
 // `threshold` how near to the vertical that floor begins.
-#[derive(Drop)]
+#[derive(Clone, Copy)]
 pub struct Row {
     pub kop: i32,
     pub pattern: Pattern,
@@ -26,7 +26,7 @@ pub struct Row {
 }
 
 // With the most turns of an integral's series.
-#[derive(Drop)]
+#[derive(Clone, Copy)]
 pub enum RowAnswer {
     Settled(Row, Turns),
     Unsettled,

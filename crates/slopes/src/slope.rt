@@ -8,7 +8,7 @@ use lengths::{HeightInWaves, LegInWaves};
 
 // `g` and `pp` are the slope's sine and cosine, `fac2` and `hwave2` twice the phases of the leg
 // and of the height.
-#[derive(Drop)]
+#[derive(Clone, Copy)]
 pub struct Slope {
     pub g: f32,
     pub pp: f32,

@@ -7,7 +7,7 @@ use slopes::Slope;
 
 // 1 and 2 are the legs, 3 and 4 their images: `u` is 1 minus the cosine of the angle to the
 // direction.
-#[derive(Drop)]
+#[derive(Clone, Copy)]
 pub struct Direction {
     pub copsi5: f32,
     pub copsi6: f32,
@@ -20,7 +20,7 @@ pub struct Direction {
 }
 
 // Cosine and sine of the reflected phase, horizontal (`w1`, `w2`) and vertical (`w3`, `w4`).
-#[derive(Drop)]
+#[derive(Clone, Copy)]
 pub struct ReflectedPhase {
     pub w1: f32,
     pub w2: f32,
@@ -29,7 +29,7 @@ pub struct ReflectedPhase {
 }
 
 // A field strength as a complex number.
-#[derive(Drop)]
+#[derive(Clone, Copy)]
 pub struct Field {
     pub re: f32,
     pub im: f32,

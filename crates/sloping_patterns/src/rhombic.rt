@@ -8,7 +8,7 @@ use reflection::Ground;
 use slopes::Slope;
 
 // What two legs, or their images, sum to: `a6` and `b6`, or `a7` and `b7`.
-#[derive(Drop)]
+#[derive(Clone, Copy)]
 pub struct LegPair {
     pub a: f32,
     pub b: f32,

@@ -8,7 +8,7 @@ use reflection::Ground;
 use slopes::Slope;
 
 // Of the phase along a leg or an image: its cosine less 1, and its sine.
-#[derive(Drop)]
+#[derive(Clone, Copy)]
 pub struct LegPhases {
     pub z1: f32,
     pub z2: f32,

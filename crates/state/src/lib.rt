@@ -6,7 +6,7 @@ ghost use Rattle.state.specs.State.{state_at};
 
 use ioncap::{Gain, GainCall};
 
-#[derive(Drop)]
+#[derive(Clone, Copy)]
 pub struct IoncapState {
     pub x: f32,
 }

@@ -9,13 +9,13 @@ ghost use Rattle.trigonometric.specs.Trigonometric.{sine_part, cosine_part, sine
 ghost use Rattle.trigonometric.specs.Trigonometric.{sine, cosine, sine_cosine_of, tangent};
 ghost use Rattle.trigonometric.specs.Turns.{turns_float, quadrant_by, sine_ahead};
 
-#[derive(Drop)]
+#[derive(Clone, Copy)]
 pub struct SineCosine {
     pub sine: f32,
     pub cosine: f32,
 }
 
-#[derive(Drop)]
+#[derive(Clone, Copy)]
 struct Reduction {
     quadrant: u32,
     rest: f32,

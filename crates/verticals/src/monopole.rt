@@ -17,7 +17,7 @@ const RINTW: f32 = 18.06;
 
 // What a row's cells take: the height in wavelengths `x`, its phase with cosine and sine, and the
 // radiation resistance.
-#[derive(Drop)]
+#[derive(Clone, Copy)]
 pub struct Monopole {
     pub x: f32,
     pub hwave: f32,
@@ -26,7 +26,7 @@ pub struct Monopole {
     pub ra: f32,
 }
 
-#[derive(Drop)]
+#[derive(Clone, Copy)]
 pub enum MonopoleRow {
     Settled(Monopole, Turns),
     Unsettled,
