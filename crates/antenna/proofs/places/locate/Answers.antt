@@ -1,0 +1,47 @@
+use mathlib.Core.Path.{◌≡◌, sym, subst, ◌∙◌}
+use Prim.Native.Nat.{ℕ, ◌-◌, ◌≤◌}
+use native.Mathlib.Omega.{arith}
+use lib.Dec.{T, lit≤}
+use lib.IntN.{ℤ, pos}
+use lib.Ieee.{Float, binary32, round, of_bits, of_int, in_float}
+use mir.Syntax.{w32}
+use mir.ValLaws.{to_z-of_z}
+use borrow.Author.Rules.{sfits_of}
+use Rattle.single.specs.Single.{◌⊞◌, ◌⊟◌, ◌⊠◌, num}
+use Rattle.elementary.specs.Basic.{cut_toward}
+use Rattle.table.specs.Table.{row_count, column_count}
+use Rattle.antenna.specs.Places.{r2d, clamped, next_of, place_of}
+use Rattle.antenna.proofs.Bounds.{clamped_within}
+use Rattle.antenna.proofs.Cuts.{within_mag, degrees_mag, cut-kept}
+use Rattle.antenna.proofs.places.locate.Goals as goal
+
+-- n and m are the MHz and the degrees plus 1, cut
+placed : (fmc delta : Float) (n m : ℤ) (i j ip1 jp1 : ℕ) → n ≡ cut_toward fmc → i ≡ clamped n row_count → m ≡ cut_toward (delta ⊠ r2d ⊞ num 1 1) → j ≡ clamped m column_count → ip1 ≡ next_of i row_count → jp1 ≡ next_of j column_count
+    → record { i = i; ip1 = ip1; xfmc = fmc ⊟ of_int binary32 n; j = j; jp1 = jp1; xdelta = delta ⊠ r2d ⊟ of_int binary32 (pos (j - 1)) } ≡ place_of fmc delta
+unfolding place_of
+placed fmc delta n m i j ip1 jp1 a b d e f g = rw (← a, ← b, ← d, ← e, ← f, ← g)
+
+pub cut-cut_fmc-requires : goal.cut-cut_fmc-requires
+cut-cut_fmc-requires c = within_mag _ c.requires.0
+
+pub cut-cut_fmc-requires : goal.cut-requires
+unfolding round of_bits
+cut-cut_fmc-requires c = degrees_mag _ c.requires.1
+
+pub overflow_sub-degrees : goal.overflow_sub-degrees
+overflow_sub-degrees c = rw c.clamp-j.ensures (clamped_within _ column_count (lit≤ tt)).0
+
+pub overflow_cast-degrees : goal.overflow_cast-degrees
+overflow_cast-degrees c = let h : c.clamp-j.result ≤ column_count = rw c.clamp-j.ensures (clamped_within _ column_count (lit≤ tt)).1 in omega arith
+
+pub int_to_float-result : goal.int_to_float-result
+int_to_float-result c =
+    let cut = c.cut-cut_fmc in
+    subst (λ (z : ℤ). T (in_float binary32 z)) (sym (to_z-of_z w32 _ (sfits_of cut.type_inv) ∙ cut.ensures)) (cut-kept _ c.requires.0)
+
+pub returns : goal.returns
+unfolding round of_bits
+returns c =
+    let cut = c.cut-cut_fmc in
+    let cut2 = c.cut in
+    placed _ _ _ _ _ _ _ _ (to_z-of_z w32 _ (sfits_of cut.type_inv) ∙ cut.ensures) c.clamp-i.ensures (to_z-of_z w32 _ (sfits_of cut2.type_inv) ∙ cut2.ensures) c.clamp-j.ensures c.next.ensures c.next-2.ensures

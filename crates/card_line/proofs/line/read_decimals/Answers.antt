@@ -1,0 +1,16 @@
+use mathlib.Core.Path.{refl}
+use Prim.Native.Nat.{◌-◌}
+use Rattle.card_line.proofs.TenFields.{reading_start, reading_step, reading_fails, reading_ends}
+use Rattle.card_line.proofs.line.read_decimals.Goals as goal
+
+pub loop-k-init : goal.loop-k-init
+loop-k-init c = reading_start _ _ refl
+
+pub returns-in_default : goal.returns-in_default
+returns-in_default c = reading_fails _ _ _ _ _ c.loop-k.invariant c.loop-k-test.true c.read_decimal.ensures.0 c.in_default.is
+
+pub loop-k-preserved : goal.loop-k-preserved
+loop-k-preserved c = reading_step _ _ _ _ _ c.loop-k.invariant c.loop-k-test.true c.read_decimal.ensures.0 c.in-Value.is
+
+pub returns-in_default : goal.returns
+returns-in_default c = reading_ends _ _ _ c.loop-k.invariant c.loop-k-test.false

@@ -1,0 +1,7 @@
+use Rattle.elementary_sweep.proofs.print_padded.Given as goal
+
+abbrev pub invariant-loop-bound : goal.invariant-loop-bound
+invariant-loop-bound l = Unit
+
+abbrev pub decreases-loop-bound : goal.decreases-loop-bound
+decreases-loop-bound l = bound

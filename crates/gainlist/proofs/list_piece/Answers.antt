@@ -1,0 +1,34 @@
+use Rattle.gainlist.proofs.Loops.{Advance, advance}
+use Rattle.listing.proofs.Lengths.{SameLengths}
+use Prim.Native.Nat.{◌-◌}
+use mathlib.Core.Path.{◌∙◌}
+use native.Mathlib.Omega.{arith}
+use borrow.Author.Rules.{rules}
+use Rattle.gainlist.proofs.list_piece.Goals as goal
+use Rattle.gainlist.proofs.list_piece.Goals.{After-step-r}
+
+-- what a step gets on, and the lengths that it keeps
+advanced : (c : After-step-r) → Advance c.args.piece.now c.loop-used.out c.loop-used.used c.step-r.result
+advanced c = advance _ _ c.args.piece.now _ _ _ c.loop-used.used _ _ _ _ c.loop-used.invariant.kept c.loop-used-test.true c.step-r.ensures
+
+kept : (c : After-step-r) → let l = c.loop-used in SameLengths l.line l.table l.out c.step-r.new.1.0 c.step-r.new.1.1.1.0 c.step-r.new.1.1.1.1.0
+kept c = search rules
+
+pub flush_full-s-requires : goal.flush_full-s-requires
+flush_full-s-requires c = (search rules, omega (arith, (advanced c.before.before.before.before.before.before.before).ranges, (kept c.before.before.before.before.before.before.before).out_same))
+
+pub overflow_add-used : goal.overflow_add-used
+overflow_add-used c = omega (arith, (advanced c.before.before.before.before.before.before.before.before.before).within, c.well_formed)
+
+pub loop-used-smaller : goal.loop-used-smaller
+loop-used-smaller c = let a = advanced c.before.before.before.before.before.before.before.before.before in omega (arith, a.within, a.some)
+
+pub loop-used-preserved : goal.loop-used-preserved
+loop-used-preserved c =
+    let i = c.loop-used.invariant in
+    let k = kept c.before.before.before.before.before.before.before.before.before in
+    record {
+      kept = record { line_length = k.line_same ∙ i.kept.line_length; table_length_lem = k.table_same ∙ i.kept.table_length_lem; room = c.flush_full-s.ensures };
+      within = (advanced c.before.before.before.before.before.before.before.before.before).within;
+      lengths = record { line_same = k.line_same ∙ i.lengths.line_same; table_same = k.table_same ∙ i.lengths.table_same; out_same = k.out_same ∙ i.lengths.out_same };
+    }

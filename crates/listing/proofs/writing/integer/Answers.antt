@@ -1,0 +1,10 @@
+use Rattle.listing.proofs.Printed.{handed}
+use mir.Val.{to_z, of_z}
+use mir.Syntax.{w64}
+use Rattle.output.specs.Field.{integer_field}
+use Rattle.output.proofs.Field.{field_length}
+use Rattle.listing.proofs.Buffer.{field}
+use Rattle.listing.proofs.writing.integer.Goals as goal
+
+pub returns : goal.returns
+returns c = handed _ _ c.ranges.v (field (integer_field (to_z w64 (of_z w64 c.args.v))) _ _ _ _ (field_length _ _) c.requires c.i.ensures)

@@ -1,0 +1,24 @@
+use Rattle.listing_examples.proofs.Loop.{within_input}
+use lib.ListN.{length}
+use Prim.Native.Nat.{◌+◌, ◌-◌, ◌≤◌}
+use native.Mathlib.Omega.{arith}
+use borrow.Author.Rules.{rules}
+use Rattle.listing_examples.proofs.printing.print_listing.Goals as goal
+use Rattle.listing_examples.proofs.printing.print_listing.Goals.{After-step-r}
+
+pub slice_bounds-step-count : goal.slice_bounds-step-count
+slice_bounds-step-count c = c.piece_end-end.ensures.0
+
+-- a step stays within the input
+within : (c : After-step-r) → c.loop-steps.from + c.step-r.result.used ≤ length c.args.input.now
+within c = within_input _ _ _ _ c.piece_end-end.ensures c.step-r.ensures.within
+
+pub overflow_add-from : goal.overflow_add-from
+overflow_add-from c = omega (arith, within c.before.before.before.before.before.before.before.before.before, c.well_formed)
+
+pub overflow_add-steps : goal.overflow_add-steps
+overflow_add-steps c = omega (arith, c.loop-steps-test.true, c.well_formed)
+
+pub loop-steps-preserved : goal.loop-steps-preserved
+loop-steps-preserved c =
+    record { within = within c.before.before.before.before.before.before.before.before.before; lengths = search rules }

@@ -1,0 +1,7 @@
+use Rattle.trigonometric.specs.Trigonometric.{sine_at}
+use Rattle.trigonometric.proofs.Reduction.{by_quadrant_lem}
+use Rattle.trigonometric.proofs.trigonometric.sine_at.Goals as goal
+
+pub returns : goal.returns
+unfolding sine_at
+returns c = by_quadrant_lem c.args.q _ _ _ _ c.requires

@@ -1,0 +1,38 @@
+use mathlib.Core.Path.{◌≡◌, sym, ap, subst, ◌∙◌}
+use mathlib.Core.Bool.{Bool}
+use mathlib.Core.Logic.{⊎_elim}
+use Prim.Native.Nat.{ℕ, ◌≤◌, ◌<◌, ◌^◌}
+use native.Mathlib.Omega.{arith}
+use lib.Dec.{T}
+use lib.IntN.{ℤ}
+use lib.Ieee.{binary32, of_int, in_float}
+use mir.Syntax.{w64}
+use mir.Val.{to_z}
+use Rattle.trigonometric.specs.Turns.{turns_float}
+use Rattle.single.specs.Single.{signed}
+use Rattle.single.proofs.Integers.{as_i64, negated_fits, negated_i64}
+use Rattle.basic.proofs.WholePart.{signed_float}
+use Rattle.trigonometric.proofs.trigonometric.turns_float.Goals as goal
+use Rattle.trigonometric.proofs.trigonometric.turns_float.Goals.{After-row_known-1}
+
+below : (k : ℕ) → k ≤ 2 ^ 21 → k < 2 ^ 63
+below k h = omega arith
+
+-- n, where the two arms meet
+made : (c : After-row_known-1) → to_z w64 c.if-negative.n ≡ signed c.args.negative c.args.k
+made c =
+    let h = below c.args.k c.requires in
+    ⊎_elim
+    (λ w. ap (to_z w64) w.1 ∙ negated_i64 c.args.k h ∙ ap (λ (s : Bool). signed s c.args.k) (sym w.0.taken))
+    (λ w. ap (to_z w64) w.1 ∙ as_i64 c.args.k h ∙ ap (λ (s : Bool). signed s c.args.k) (sym w.0.left))
+    c.if-negative.branch
+
+pub overflow_sub-n : goal.overflow_sub-n
+overflow_sub-n c = negated_fits c.args.k (below _ c.requires)
+
+pub int_to_float-result : goal.int_to_float-result
+int_to_float-result c = subst (λ (z : ℤ). T (in_float binary32 z)) (sym (made c)) (signed_float c.args.negative _ c.requires)
+
+pub returns : goal.returns
+unfolding turns_float
+returns c = ap (of_int binary32) (made c)
