@@ -22,7 +22,9 @@ fits x = record { sfits = to_signed_in 31 x }
 
 pub truncating_f32_to_i64-requires : goal.truncating_f32_to_i64-requires
 unfolding of_bits neg
-truncating_f32_to_i64-requires c = in_i64 c.args.x (2 ^ 31) (lit< tt) (range_mag _ c.if-x.true c.if-x-2.true)
+truncating_f32_to_i64-requires c =
+    let bounds = in_i64 c.args.x (2 ^ 31) (lit< tt) (range_mag _ c.if-x.true c.if-x-2.true) in
+    record { lower_bound = bounds.0; upper_bound = bounds.1 }
 
 pub overflow_cast-result : goal.overflow_cast-result
 overflow_cast-result c = subst (SFits w32) (sym (is c)) (fits c.args.x)

@@ -1,6 +1,6 @@
 use Rattle.single.proofs.Positive.{normal_units}
 use mathlib.Core.Path.{◌≡◌, sym, ◌∙◌}
-use mathlib.Core.Logic.{◌⊎◌, inl, inr, ⊎_elim}
+use mathlib.Core.Logic.{◌⊎◌, inl, inr}
 use Prim.Native.Nat.{ℕ, ◌+◌, ◌-◌, ◌*◌, ◌/◌, ◌%◌, ◌≤◌, ◌<◌}
 use native.Mathlib.Omega.{arith}
 use lib.Ieee.{binary32, of_bits, of_int, minus}
@@ -8,10 +8,14 @@ use Rattle.single.proofs.Sign.{finite_bits}
 use Rattle.logarithm.specs.Logarithm.{ln_at, ln_from}
 use Rattle.logarithm.proofs.Digits.{from_normal, below_end, from_end}
 use Rattle.logarithm.proofs.logarithm.split.Goals as goal
-use Rattle.logarithm.proofs.logarithm.split.Goals.{After-row_known-1}
+use Rattle.logarithm.proofs.logarithm.split.Goals.{After-row_known-1, then-t-lt3474675, else-t-lt3474675}
 
 one : (c : After-row_known-1) → c.if-t-lt3474675.half ≤ 1
-one c = ⊎_elim (λ w. let e : c.if-t-lt3474675.half ≡ 0 = w.1 in omega arith) (λ w. let e : c.if-t-lt3474675.half ≡ 1 = w.1 in omega arith) c.if-t-lt3474675.branch
+one c =
+    elim c.if-t-lt3474675.branch [
+      | then-t-lt3474675 w ↦ let e : c.if-t-lt3474675.half ≡ 0 = w.half-is in omega arith
+      | else-t-lt3474675 w ↦ let e : c.if-t-lt3474675.half ≡ 1 = w.half-is in omega arith
+    ]
 
 -- the digits and the exponent that the definition picks
 chosen : (b bias half : ℕ) → 8388608 ≤ b → b < 2139095040 → ((b % 8388608 < 3474675) × (half ≡ 0)) ⊎ ((3474675 ≤ b % 8388608) × (half ≡ 1)) → ln_at (of_bits binary32 (1065353216 - half * 8388608 + b % 8388608)) (of_int binary32 (minus (b / 8388608 + half) bias)) ≡ ln_from (normal_units b) (bias + 23)
@@ -36,4 +40,4 @@ overflow_add-e c = let h = one c in omega arith
 pub returns : goal.returns
 returns c =
     let h = one c in
-    (omega arith, chosen c.args.b c.args.bias c.if-t-lt3474675.half c.requires.0 c.requires.1 (⊎_elim (λ w. inl (w.0.taken, w.1)) (λ w. inr (w.0.left, w.1)) c.if-t-lt3474675.branch))
+    (omega arith, chosen c.args.b c.args.bias c.if-t-lt3474675.half c.requires.0 c.requires.1 (elim c.if-t-lt3474675.branch [ then-t-lt3474675 w ↦ inl (w.if-t-lt3474675.true, w.half-is) | else-t-lt3474675 w ↦ inr (w.if-t-lt3474675.false, w.half-is) ]))

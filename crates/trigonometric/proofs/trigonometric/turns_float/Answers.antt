@@ -13,19 +13,19 @@ use Rattle.single.specs.Single.{signed}
 use Rattle.single.proofs.Integers.{as_i64, negated_fits, negated_i64}
 use Rattle.basic.proofs.WholePart.{signed_float}
 use Rattle.trigonometric.proofs.trigonometric.turns_float.Goals as goal
-use Rattle.trigonometric.proofs.trigonometric.turns_float.Goals.{After-row_known-1}
+use Rattle.trigonometric.proofs.trigonometric.turns_float.Goals.{After-row_known-1, then-negative, else-negative}
 
 below : (k : ℕ) → k ≤ 2 ^ 21 → k < 2 ^ 63
 below k h = omega arith
 
 -- n, where the two arms meet
-made : (c : After-row_known-1) → to_z w64 c.if-negative.n ≡ signed c.args.negative c.args.k
+made : (c : After-row_known-1) → to_z w64 c.if-negative.n-bits ≡ signed c.args.negative c.args.k
 made c =
     let h = below c.args.k c.requires in
-    ⊎_elim
-    (λ w. ap (to_z w64) w.1 ∙ negated_i64 c.args.k h ∙ ap (λ (s : Bool). signed s c.args.k) (sym w.0.taken))
-    (λ w. ap (to_z w64) w.1 ∙ as_i64 c.args.k h ∙ ap (λ (s : Bool). signed s c.args.k) (sym w.0.left))
-    c.if-negative.branch
+    elim c.if-negative.branch [
+      | then-negative w ↦ w.n-is ∙ negated_i64 c.args.k h ∙ ap (λ (s : Bool). signed s c.args.k) (sym w.if-negative.true)
+      | else-negative w ↦ w.n-is ∙ as_i64 c.args.k h ∙ ap (λ (s : Bool). signed s c.args.k) (sym w.if-negative.false)
+    ]
 
 pub overflow_sub-n : goal.overflow_sub-n
 overflow_sub-n c = negated_fits c.args.k (below _ c.requires)
