@@ -27,8 +27,8 @@ pub returns-then-slots-ne-SLOTS : goal.returns-then-slots-ne-SLOTS
 unfolding fill_number filled
 returns-then-slots-ne-SLOTS c = let e = ne_eqb _ _ c.if-slots-ne-SLOTS.true in (simp e c.length_refusal.ensures, simp e c.clear_refused.ensures)
 
-pub returns-then-slots-ne-SLOTS : goal.returns
-returns-then-slots-ne-SLOTS c =
+pub returns : goal.returns
+returns c =
     let m = c.model_of in
     let s = c.slots_of in
     let a = c.args in

@@ -20,5 +20,5 @@ returns-then-not-is_finite c = rw (not_full c.before, c.if-not-is_finite.true)
 pub returns-then-not-is_table : goal.returns-then-not-is_table
 returns-then-not-is_table c = rw (not_full c.before.before.before, c.if-not-is_finite.false, ← c.is_table.ensures, c.if-not-is_table.true)
 
-pub returns-then-is_full : goal.returns
-returns-then-is_full c = rw (not_full c.before.before.before, c.if-not-is_finite.false, ← c.is_table.ensures, c.if-not-is_table.false)
+pub returns : goal.returns
+returns c = rw (not_full c.before.before.before, c.if-not-is_finite.false, ← c.is_table.ensures, c.if-not-is_table.false)

@@ -21,6 +21,6 @@ overflow_add-result c =
     let room : d.accepted + d.refused < count_limit = leb-false count_limit (d.accepted + d.refused) (sym c.is_full.ensures ∙ c.if-is_full.false) in
     omega (arith, room)
 
-pub returns-then-is_full : goal.returns
+pub returns : goal.returns
 unfolding refused_within refused_deck
-returns-then-is_full c = simp (sym c.is_full.ensures ∙ c.if-is_full.false, ne_eqb _ _ c.if-verdict-eq10.false, add-one)
+returns c = simp (sym c.is_full.ensures ∙ c.if-is_full.false, ne_eqb _ _ c.if-verdict-eq10.false, add-one)

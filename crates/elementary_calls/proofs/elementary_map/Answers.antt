@@ -41,9 +41,9 @@ loop-i-preserved c =
     let r : ℕ = c.call.result in
     (omega arith, simp length-set l.invariant.1, below_more (λ (k : ℕ). get_or (set l.out n r) k 0 ≡ answer a.function (get_or a.xs.now k nan)) n (λ k h. get_or-set_other l.out n k r 0 (let z : k ≢ n = omega arith in z) ∙ l.invariant.2 k h) (get_or-set_same l.out n r 0 (let z : n < length l.out = omega arith in z) ∙ c.call.ensures))
 
-pub returns-then-xs-out : goal.returns
+pub returns : goal.returns
 unfolding map_number mapped
-returns-then-xs-out c =
+returns c =
     let l = c.loop-i in
     let a = c.args in
     let e = eq-eqb (length a.xs.now) (length a.out.now) c.if-xs-out.false in

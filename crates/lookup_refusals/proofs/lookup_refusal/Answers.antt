@@ -10,6 +10,6 @@ pub returns-then-any_outside : goal.returns-then-any_outside
 unfolding lookup_refusal first_refusal
 returns-then-any_outside c = rw (← c.is_table.ensures, c.if-not-is_table.false, ← c.any_outside.ensures, c.if-any_outside.true)
 
-pub returns-then-not-is_table : goal.returns
+pub returns : goal.returns
 unfolding lookup_refusal first_refusal
-returns-then-not-is_table c = rw (← c.is_table.ensures, c.if-not-is_table.false, ← c.any_outside.ensures, c.if-any_outside.false)
+returns c = rw (← c.is_table.ensures, c.if-not-is_table.false, ← c.any_outside.ensures, c.if-any_outside.false)

@@ -10,8 +10,8 @@ pub returns-then-table-ne-TABLE_LENGTH : goal.returns-then-table-ne-TABLE_LENGTH
 unfolding refused_table is_table
 returns-then-table-ne-TABLE_LENGTH c = simp (ne_eqb _ _ c.if-table-ne-TABLE_LENGTH.true)
 
-pub returns-then-table-ne-TABLE_LENGTH : goal.returns
+pub returns : goal.returns
 unfolding refused_table filled_with cleared is_table round of_bits
-returns-then-table-ne-TABLE_LENGTH c =
+returns c =
     let n = c.if-table-ne-TABLE_LENGTH.false in
     simp (eq-eqb _ _ n) (c.fill.ensures ∙ ap (λ k. replicate k (num 0 1)) n)

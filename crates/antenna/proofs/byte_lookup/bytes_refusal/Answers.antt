@@ -11,6 +11,6 @@ pub returns-then-any_outside : goal.returns-then-any_outside
 unfolding lookup_refusal first_refusal
 returns-then-any_outside c = rw (is_table_lem _ c.if-table-ne-BYTES.false, ← c.any_outside.ensures, c.if-any_outside.true)
 
-pub returns-then-table-ne-BYTES : goal.returns
+pub returns : goal.returns
 unfolding lookup_refusal first_refusal
-returns-then-table-ne-BYTES c = rw (is_table_lem _ c.if-table-ne-BYTES.false, ← c.any_outside.ensures, c.if-any_outside.false)
+returns c = rw (is_table_lem _ c.if-table-ne-BYTES.false, ← c.any_outside.ensures, c.if-any_outside.false)

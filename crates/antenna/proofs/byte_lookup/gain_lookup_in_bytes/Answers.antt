@@ -20,9 +20,9 @@ byte_row_at-low-requires c = ((bytes_accepted _ _ _ (sym c.bytes_refusal-refusal
 pub byte_row_at-high-requires : goal.byte_row_at-high-requires
 byte_row_at-high-requires c = ((bytes_accepted _ _ _ (sym c.bytes_refusal-refusal.ensures ∙ c.if-refusal-ne0.false)).0, rw c.locate-at.ensures (high_in _ _))
 
-pub returns-then-refusal-ne0 : goal.returns
+pub returns : goal.returns
 unfolding lookup_number lookup_values gain_lookup_of gain_lookup_values
-returns-then-refusal-ne0 c =
+returns c =
     let e = c.bytes_refusal-refusal.ensures in
     let z = c.if-refusal-ne0.false in
     let size = (bytes_accepted _ _ _ (sym e ∙ z)).0 in

@@ -60,9 +60,9 @@ from_filled_rows-requires c =
     let at = c.locate-at.ensures in
     (size, (rw (s.0, s.1, at) (ends_in _ _ _ _ (range c)), (rw at (low_in _ _), rw at (high_in _ _))))
 
-pub returns-then-refusal-ne0 : goal.returns
+pub returns : goal.returns
 unfolding lookup_number lookup_values card_lookup_of card_lookup_values
-returns-then-refusal-ne0 c =
+returns c =
     let e = number c.before.before.before.before in
     let s = signed c.before.before.before.before.before.before in
     let z = c.if-refusal-ne0.false in

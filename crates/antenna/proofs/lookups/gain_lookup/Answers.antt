@@ -20,9 +20,9 @@ blend_at-requires c =
     let at = c.locate-at.ensures in
     (size, (rw at (low_in _ _), rw at (high_in _ _)))
 
-pub returns-then-refusal-ne0 : goal.returns
+pub returns : goal.returns
 unfolding lookup_number lookup_values gain_lookup_of gain_lookup_values
-returns-then-refusal-ne0 c =
+returns c =
     let e = c.lookup_refusal-refusal.ensures in
     let z = c.if-refusal-ne0.false in
     let at = c.locate-at.ensures in

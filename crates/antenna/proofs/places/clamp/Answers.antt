@@ -32,6 +32,10 @@ unfolding clamped
 beyond (pos k) most h l = rw (h, le-ltb k most l)
 beyond (negsuc k) most h l = absurd (subst T h tt)
 
+module _ (n : ℤ) (f : SFits w32 n) where
+  back : to_z w32 (of_z w32 n) ≡ n
+  back = to_z-of_z w32 n f
+
 pub returns-then-n-lt1 : goal.returns-then-n-lt1
 returns-then-n-lt1 c = below _ _ (rw (back c.args.n (search rules)) at c.if-n-lt1.true)
 
@@ -43,7 +47,3 @@ returns-then-k-most c = let e = back c.args.n (search rules) in rw e (within _ _
 
 pub returns-else-k-most : goal.returns-else-k-most
 returns-else-k-most c = let e = back c.args.n (search rules) in beyond _ _ (rw e at c.if-n-lt1.false) (rw e at c.if-k-most.false)
-
-module _ (n : ℤ) (f : SFits w32 n) where
-  back : to_z w32 (of_z w32 n) ≡ n
-  back = to_z-of_z w32 n f

@@ -28,21 +28,6 @@ plus (inf s) m h = absurd m
 plus (fin false n e) m h = ap pos (sym (min-left (n * up e / down e) (2 ^ 31 - 1) (le_trans (whole_below (fin false n e) (2 ^ 21) m) (lit≤ tt))))
 plus (fin true n e) m h = absurd (subst T h tt)
 
-pub float_to_bits-b : goal.float_to_bits-b
-float_to_bits-b c = mag_no_nan (2 ^ 21) c.args.x c.requires
-
-pub overflow_sub-result : goal.overflow_sub-result
-overflow_sub-result c = field c.args.x c.requires (subst T (sym c.well_formed.0.1) tt) c.if-b-ge1065353216.true c.if-b-lt2147483648.true
-
-pub overflow_cast-result : goal.overflow_cast-result
-overflow_cast-result c = let h = small c.args.x c.requires (subst T (sym c.well_formed.0.1) tt) c.if-b-ge1065353216.true c.if-b-lt2147483648.true in record { sfits = omega (arith, h) }
-
-pub returns-then-b-lt2147483648 : goal.returns-then-b-lt2147483648
-returns-then-b-lt2147483648 c =
-    let f = subst T (sym c.well_formed.0.1) tt in
-    let h = small c.args.x c.requires f c.if-b-ge1065353216.true c.if-b-lt2147483648.true in
-    to_z_pos w32 _ (omega (arith, h)) ∙ whole c.args.x c.requires f c.if-b-ge1065353216.true c.if-b-lt2147483648.true
-
 module _ (x : Float) (m : Mag (2 ^ 21) x) (f : T (fits binary32 x)) (low : 1065353216 ≤ to_bits binary32 x) (high : to_bits binary32 x < 2147483648) where
   abbrev b : ℕ
   b = to_bits binary32 x
@@ -58,3 +43,18 @@ module _ (x : Float) (m : Mag (2 ^ 21) x) (f : T (fits binary32 x)) (low : 10653
 
   whole : pos ((8388608 + b % 8388608) / 2 ^ (150 - b / 8388608)) ≡ cut_toward x
   whole = ap pos digits ∙ plus x m (sym (sign_bit x f (mag_no_nan (2 ^ 21) x m)) ∙ lt-leb 2147483648 b high)
+
+pub float_to_bits-b : goal.float_to_bits-b
+float_to_bits-b c = mag_no_nan (2 ^ 21) c.args.x c.requires
+
+pub overflow_sub-result : goal.overflow_sub-result
+overflow_sub-result c = field c.args.x c.requires (subst T (sym c.well_formed.0.1) tt) c.if-b-ge1065353216.true c.if-b-lt2147483648.true
+
+pub overflow_cast-result : goal.overflow_cast-result
+overflow_cast-result c = let h = small c.args.x c.requires (subst T (sym c.well_formed.0.1) tt) c.if-b-ge1065353216.true c.if-b-lt2147483648.true in record { sfits = omega (arith, h) }
+
+pub returns-then-b-lt2147483648 : goal.returns-then-b-lt2147483648
+returns-then-b-lt2147483648 c =
+    let f = subst T (sym c.well_formed.0.1) tt in
+    let h = small c.args.x c.requires f c.if-b-ge1065353216.true c.if-b-lt2147483648.true in
+    to_z_pos w32 _ (omega (arith, h)) ∙ whole c.args.x c.requires f c.if-b-ge1065353216.true c.if-b-lt2147483648.true

@@ -24,9 +24,9 @@ placed fmc delta n m i j ip1 jp1 a b d e f g = rw (← a, ← b, ← d, ← e, �
 pub cut-cut_fmc-requires : goal.cut-cut_fmc-requires
 cut-cut_fmc-requires c = within_mag _ c.requires.0
 
-pub cut-cut_fmc-requires : goal.cut-requires
+pub cut-requires : goal.cut-requires
 unfolding round of_bits
-cut-cut_fmc-requires c = degrees_mag _ c.requires.1
+cut-requires c = degrees_mag _ c.requires.1
 
 pub overflow_sub-degrees : goal.overflow_sub-degrees
 overflow_sub-degrees c = rw c.clamp-j.ensures (clamped_within _ column_count (lit≤ tt)).0

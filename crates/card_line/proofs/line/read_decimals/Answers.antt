@@ -12,5 +12,5 @@ returns-in_default c = reading_fails _ _ _ _ _ c.loop-k.invariant c.loop-k-test.
 pub loop-k-preserved : goal.loop-k-preserved
 loop-k-preserved c = reading_step _ _ _ _ _ c.loop-k.invariant c.loop-k-test.true c.read_decimal.ensures.0 c.in-Value.is
 
-pub returns-in_default : goal.returns
-returns-in_default c = reading_ends _ _ _ c.loop-k.invariant c.loop-k-test.false
+pub returns : goal.returns
+returns c = reading_ends _ _ _ c.loop-k.invariant c.loop-k-test.false

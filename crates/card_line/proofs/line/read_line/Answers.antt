@@ -33,8 +33,8 @@ reads : (c : Else-not-well_formed) → (integer_at (bytes c) 0 ≡ Number c.in-N
 reads c =
     (sym c.read_integer.ensures.0 ∙ c.in-Number.is, sym c.read_integer-2.ensures.0 ∙ c.in-Number-read_integer.is, sym c.read_integer-3.ensures.0 ∙ c.in-Number-read_integer-2.is)
 
-pub returns-then-s-ne-BYTES : goal.returns
-returns-then-s-ne-BYTES c =
+pub returns : goal.returns
+returns c =
     let r = reads c.before in
     all_read _ _ _ _ _ _ _ c.if-s-ne-BYTES.false r.0 r.1 r.2 c.read_decimals-well_formed.ensures (not-false _ c.if-not-well_formed.false) c.card_fields.ensures
 

@@ -31,6 +31,6 @@ returns-then-any_outside-2 c = rw (from_azimuth c.before.before.before.before, c
 pub returns-then-whole_outside : goal.returns-then-whole_outside
 returns-then-whole_outside c = rw (from_first c.before, c.if-whole_outside.true)
 
-pub returns-then-any_outside : goal.returns
-returns-then-any_outside c = rw (from_first c.before.before, c.if-whole_outside.false)
+pub returns : goal.returns
+returns c = rw (from_first c.before.before, c.if-whole_outside.false)
     (c.whole_outside-2.ensures ∙ ap whole_outside (to_z-of_z w32 c.args.fields.last (search rules)))

@@ -7,6 +7,6 @@ pub returns-then-blends_with_zenith : goal.returns-then-blends_with_zenith
 unfolding cell_gain
 returns-then-blends_with_zenith c = rw (← c.cell-rain.ensures, ← blends_read c.args.row.kop (search rules) c.blends_with_zenith.ensures, c.if-blends_with_zenith.true) c.blend.ensures
 
-pub returns-then-blends_with_zenith : goal.returns
+pub returns : goal.returns
 unfolding cell_gain
-returns-then-blends_with_zenith c = rw (← c.cell-rain.ensures, ← blends_read c.args.row.kop (search rules) c.blends_with_zenith.ensures, c.if-blends_with_zenith.false)
+returns c = rw (← c.cell-rain.ensures, ← blends_read c.args.row.kop (search rules) c.blends_with_zenith.ensures, c.if-blends_with_zenith.false)

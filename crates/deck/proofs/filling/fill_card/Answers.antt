@@ -57,8 +57,8 @@ loop-n-smaller c = omega (arith, c.loop-n-test.true)
 pub loop-n-preserved : goal.loop-n-preserved
 loop-n-preserved c = λ f of. rows_step _ _ _ f of _ _ _ _ _ _ _ _ (c.loop-n.invariant f of) c.loop-n-test.true c.fill_row-r.ensures c.if-r-ne0.false
 
-pub returns-then-r-ne0 : goal.returns
-returns-then-r-ne0 c = rows_end _ _ _ _ (read c.before.before.before.before.before.before.before.before.before.before) _ _ _ _ _ (so_far c.before) c.loop-n-test.false
+pub returns : goal.returns
+returns c = rows_end _ _ _ _ (read c.before.before.before.before.before.before.before.before.before.before) _ _ _ _ _ (so_far c.before) c.loop-n-test.false
 
 pub shape_of-table : goal.shape_of-table
 shape_of-table c = (returns c).length

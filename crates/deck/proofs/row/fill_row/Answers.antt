@@ -43,8 +43,8 @@ bounds-table-m-2 c = let p = c.requires in omega (arith, p.0, p.2, above_stored 
 pub shape_of-table : goal.shape_of-table
 shape_of-table c = search (rules, above_stored c.before.before)
 
-pub returns-in_default : goal.returns
-returns-in_default c =
+pub returns : goal.returns
+returns c =
     row_settled _ _ _ _ _ _ _ _ _ _ _ (sym c.row_of.ensures.0 ∙ c.in-Settled.is)
     (to_z-of_z w32 _ (search rules)) c.zenith_gain_for-zenith.ensures (c.elevation_of-e.ensures ∙ column_read _ _ _ 0 c.requires.3 (omega arith))
     c.ground_cell.ensures c.fill_above.ensures.0

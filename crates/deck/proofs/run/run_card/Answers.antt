@@ -38,8 +38,8 @@ overflow_add-result c =
     let p = none_before_work the_antenna the_laws count_limit _ _ _ none in
     omega (arith, p.room)
 
-pub returns-then-verdict-ne0 : goal.returns
-returns-then-verdict-ne0 c =
+pub returns : goal.returns
+returns c =
     let none = sym c.if-verdict-ne0.false ∙ c.refusal_before_work-verdict.ensures in
     let cleared = c.clear_refused.ensures in
     answered _ _ _ _ (entry_accepted the_antenna the_laws count_limit _ _ _ _ _ _ _ none cleared c.fill_card-filled.ensures c.if-filled-ne0.false)

@@ -41,8 +41,8 @@ overflow_add-result c = let h = bound c in omega (arith, c.loop-m.invariant.low)
 pub float_from_bits-result : goal.float_from_bits-result
 float_from_bits-result c = let h = bound c in finite_bits _ (omega (arith, c.loop-m.invariant.low))
 
-pub returns-then-n-eq0 : goal.returns
-returns-then-n-eq0 c = ap (λ (x : ℕ). of_bits binary32 (c.loop-m.k * 8388608 + x)) c.rounded.ensures ∙ sym (rounds _ _ _ c.loop-m.invariant c.loop-m-test.false)
+pub returns : goal.returns
+returns c = ap (λ (x : ℕ). of_bits binary32 (c.loop-m.k * 8388608 + x)) c.rounded.ensures ∙ sym (rounds _ _ _ c.loop-m.invariant c.loop-m-test.false)
 
 pub overflow_mul-m-in-loop-m : goal.overflow_mul-m-in-loop-m
 overflow_mul-m-in-loop-m c = omega arith

@@ -32,5 +32,5 @@ overflow_add-n c = let h = small c in omega arith
 pub loop-i-preserved : goal.loop-i-preserved
 loop-i-preserved c = digit_step _ _ _ _ c.loop-i.invariant c.loop-i-test.true c.if-b-lt48.false c.if-b-gt57.false
 
-pub returns-then-s-eq0 : goal.returns
-returns-then-s-eq0 c = counted _ _ _ _ c.if-s-eq0.false c.if-most-s.false (digit_ends _ _ _ _ c.loop-i.invariant c.loop-i-test.false)
+pub returns : goal.returns
+returns c = counted _ _ _ _ c.if-s-eq0.false c.if-most-s.false (digit_ends _ _ _ _ c.loop-i.invariant c.loop-i-test.false)

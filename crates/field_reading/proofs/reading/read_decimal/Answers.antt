@@ -38,5 +38,5 @@ overflow_add-a c = let h = below c.before.before.before in omega arith
 pub ten_thousandths-requires : goal.ten_thousandths-requires
 ten_thousandths-requires c = let h = below c.before.before.before in omega arith
 
-pub returns-then-s-lt6 : goal.returns
-returns-then-s-lt6 c = decimal_reading _ _ (value _ _ _ _ _ c.signed_digits.ensures c.in-Read.is c.digits.ensures _ _ c.in-Read-digits.is _ c.if-s-point-ne46.false c.ten_thousandths.ensures)
+pub returns : goal.returns
+returns c = decimal_reading _ _ (value _ _ _ _ _ c.signed_digits.ensures c.in-Read.is c.digits.ensures _ _ c.in-Read-digits.is _ c.if-s-point-ne46.false c.ten_thousandths.ensures)

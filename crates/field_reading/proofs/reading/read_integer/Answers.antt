@@ -17,5 +17,5 @@ returns-then-minus c = integer_reading _ _ (negative _ _ c.signed_digits.ensures
 pub overflow_cast-result-2 : goal.overflow_cast-result-2
 overflow_cast-result-2 c = casts _ _ c.signed_digits.ensures _ _ c.in-Read.is
 
-pub returns-in_default : goal.returns
-returns-in_default c = integer_reading _ _ (positive _ _ c.signed_digits.ensures _ _ c.in-Read.is c.if-minus.false)
+pub returns : goal.returns
+returns c = integer_reading _ _ (positive _ _ c.signed_digits.ensures _ _ c.in-Read.is c.if-minus.false)

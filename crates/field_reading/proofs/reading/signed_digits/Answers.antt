@@ -7,5 +7,5 @@ returns-then-s-a-eq45 c = sign_minus _ _ _ _ c.spaces-a.ensures c.if-s-a-eq45.tr
 pub returns-then-a-s : goal.returns-then-a-s
 returns-then-a-s c = sign_none _ _ _ _ c.spaces-a.ensures c.if-s-a-eq45.false c.digits-then-a-s.ensures
 
-pub returns-then-s-a-eq45 : goal.returns
-returns-then-s-a-eq45 c = blank _ _ _ c.spaces-a.ensures c.if-a-s.false
+pub returns : goal.returns
+returns c = blank _ _ _ c.spaces-a.ensures c.if-a-s.false

@@ -12,5 +12,5 @@ returns-then-s-i-ne32 c = space_stops _ _ c.loop-i.invariant c.loop-i-test.true 
 pub loop-i-preserved : goal.loop-i-preserved
 loop-i-preserved c = space_step _ _ c.loop-i.invariant c.loop-i-test.true c.if-s-i-ne32.false
 
-pub returns-then-s-i-ne32 : goal.returns
-returns-then-s-i-ne32 c = space_ends _ _ c.loop-i.invariant c.loop-i-test.false
+pub returns : goal.returns
+returns c = space_ends _ _ c.loop-i.invariant c.loop-i-test.false

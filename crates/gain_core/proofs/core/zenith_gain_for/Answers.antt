@@ -8,6 +8,6 @@ pub returns-then-blends_with_zenith : goal.returns-then-blends_with_zenith
 unfolding zenith_gain_for
 returns-then-blends_with_zenith c = rw (← blends_read c.args.row.kop (search rules) c.blends_with_zenith.ensures, c.if-blends_with_zenith.true) c.zenith_gain.ensures
 
-pub returns-then-blends_with_zenith : goal.returns
+pub returns : goal.returns
 unfolding zenith_gain_for round of_bits
-returns-then-blends_with_zenith c = rw (← blends_read c.args.row.kop (search rules) c.blends_with_zenith.ensures, c.if-blends_with_zenith.false)
+returns c = rw (← blends_read c.args.row.kop (search rules) c.blends_with_zenith.ensures, c.if-blends_with_zenith.false)

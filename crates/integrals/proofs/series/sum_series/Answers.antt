@@ -16,6 +16,25 @@ unfolding series_from
 settled zero n sum term g sq = refl
 settled (suc m) n sum term g sq = refl
 
+module _ (k : ℕ) (sum term g sq a : Float) (r : SeriesSum) (below : k < most_turns) (e : a ≡ absolute (next_term term sq g))
+    (inv : series_from (most_turns - k) false k sum term g sq ≡ r) where
+  -- what the series comes to before a turn, it comes to after it
+  turn : (b : Bool) → le a (num 5 100000) ≡ b →
+      series_from (most_turns - (k + 1)) b (k + 1) (sum ⊞ term) (next_term term sq g) (g ⊞ num 2 1) sq ≡ r
+  unfolding series_from
+  turn b t =
+      let left : most_turns - k ≡ suc (most_turns - (k + 1)) = omega arith in
+      rw (← t, e) (rw left at inv)
+
+  stop : le a (num 5 100000) ≡ true → Settled (sum ⊞ term) (k + 1) ≡ r
+  stop t = sym (settled (most_turns - (k + 1)) (k + 1) (sum ⊞ term) (next_term term sq g) (g ⊞ num 2 1) sq) ∙ turn true t
+
+  fail : le a (num 5 100000) ≡ false → most_turns ≤ k + 1 → Unsettled ≡ r
+  unfolding series_from
+  fail t h =
+      let none : most_turns - (k + 1) ≡ 0 = omega arith in
+      rw none at (turn false t)
+
 pub loop-init : goal.loop-init
 unfolding series_of
 loop-init c = (omega arith, refl)
@@ -43,22 +62,3 @@ overflow_add-turns c = omega arith
 
 pub loop-smaller : goal.loop-smaller
 loop-smaller c = omega arith
-
-module _ (k : ℕ) (sum term g sq a : Float) (r : SeriesSum) (below : k < most_turns) (e : a ≡ absolute (next_term term sq g))
-    (inv : series_from (most_turns - k) false k sum term g sq ≡ r) where
-  -- what the series comes to before a turn, it comes to after it
-  turn : (b : Bool) → le a (num 5 100000) ≡ b →
-      series_from (most_turns - (k + 1)) b (k + 1) (sum ⊞ term) (next_term term sq g) (g ⊞ num 2 1) sq ≡ r
-  unfolding series_from
-  turn b t =
-      let left : most_turns - k ≡ suc (most_turns - (k + 1)) = omega arith in
-      rw (← t, e) (rw left at inv)
-
-  stop : le a (num 5 100000) ≡ true → Settled (sum ⊞ term) (k + 1) ≡ r
-  stop t = sym (settled (most_turns - (k + 1)) (k + 1) (sum ⊞ term) (next_term term sq g) (g ⊞ num 2 1) sq) ∙ turn true t
-
-  fail : le a (num 5 100000) ≡ false → most_turns ≤ k + 1 → Unsettled ≡ r
-  unfolding series_from
-  fail t h =
-      let none : most_turns - (k + 1) ≡ 0 = omega arith in
-      rw none at (turn false t)

@@ -11,9 +11,9 @@ returns-then-any_outside c =
     let same = c.any_outside.ensures in
     (rw (← same, c.if-any_outside.true), (rw (← same, c.if-any_outside.true), rw (← same, c.if-any_outside.true)))
 
-pub returns-then-any_outside : goal.returns
+pub returns : goal.returns
 unfolding cone_gain_number cone_gain_value invcon_number invcon_of invcon_value first_refusal round of_bits
-returns-then-any_outside c =
+returns c =
     let same = c.any_outside.ensures in
     let left = c.if-any_outside.false in
     (rw (← same, left) (ap (λ (x : Float). Accepted x) c.cone_value.ensures), (rw (← same, left), rw (← same, left) c.cone_value.ensures))

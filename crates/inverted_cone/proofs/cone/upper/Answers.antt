@@ -9,23 +9,6 @@ use lib.Ieee.{Float, nan, le}
 use Rattle.inverted_cone.specs.InvertedCone.{upper_from, upper_of}
 use Rattle.inverted_cone.proofs.cone.upper.Goals as goal
 
-pub loop-i-init : goal.loop-i-init
-loop-i-init c = (omega arith, omega arith, omega arith, omega arith, last _ _ _ (omega arith))
-
-pub loop-i-preserved-then-x-bounds : goal.loop-i-preserved-then-x-bounds
-loop-i-preserved-then-x-bounds c = (omega arith, omega arith, omega arith, omega arith, found _ _ _ (omega arith) c.if-x-bounds.true)
-
-pub loop-i-preserved : goal.loop-i-preserved
-loop-i-preserved c =
-    let l = c.loop-i in
-    let e = passed _ c.args.bounds.now (l.i - 1) (omega arith) c.if-x-bounds.false in
-    let s : suc (l.i - 1) ≡ l.i = omega arith in
-    (omega arith, omega arith, omega arith, omega arith, l.invariant.4 ∙ rw s at e)
-
-pub returns : goal.returns
-unfolding upper_of
-returns c = let l = c.loop-i in let e : l.i ≡ 1 = omega arith in (rw e at l.invariant.4, l.invariant.2, l.invariant.3)
-
 module _ (x : Float) (bounds : List Float) (i : ℕ) where
   -- one bound and the rest
   one : i < length bounds → upper_from x i (drop i bounds) ≡ cond (le x (get_or bounds i nan)) i (upper_from x (suc i) (drop (suc i) bounds))
@@ -46,3 +29,20 @@ module _ (x : Float) (bounds : List Float) (i : ℕ) where
       either : (b : Bool) → i ≡ cond b i (length bounds - 1)
       either true = refl
       either false = omega arith
+
+pub loop-i-init : goal.loop-i-init
+loop-i-init c = (omega arith, omega arith, omega arith, omega arith, last _ _ _ (omega arith))
+
+pub loop-i-preserved-then-x-bounds : goal.loop-i-preserved-then-x-bounds
+loop-i-preserved-then-x-bounds c = (omega arith, omega arith, omega arith, omega arith, found _ _ _ (omega arith) c.if-x-bounds.true)
+
+pub loop-i-preserved : goal.loop-i-preserved
+loop-i-preserved c =
+    let l = c.loop-i in
+    let e = passed _ c.args.bounds.now (l.i - 1) (omega arith) c.if-x-bounds.false in
+    let s : suc (l.i - 1) ≡ l.i = omega arith in
+    (omega arith, omega arith, omega arith, omega arith, l.invariant.4 ∙ rw s at e)
+
+pub returns : goal.returns
+unfolding upper_of
+returns c = let l = c.loop-i in let e : l.i ≡ 1 = omega arith in (rw e at l.invariant.4, l.invariant.2, l.invariant.3)

@@ -13,8 +13,8 @@ pub returns-then-not-is_finite : goal.returns-then-not-is_finite
 unfolding call_refusal first_refusal
 returns-then-not-is_finite c = rw (← c.is_finite.ensures, c.if-not-is_finite.true)
 
-pub returns-then-not-is_finite : goal.returns
+pub returns : goal.returns
 unfolding call_refusal first_refusal input_refusal round of_bits
-returns-then-not-is_finite c = let call = c.args.call in
+returns c = let call = c.args.call in
     rw (← c.is_finite.ensures, c.if-not-is_finite.false, ← c.call_outside-outside.ensures, ← c.mhz_outside-mhz_outside.ensures)
     (c.input_refusal.ensures ∙ ap (λ (k : ℤ). input_refusal k c.call_outside-outside.result call.params.asig c.mhz_outside-mhz_outside.result call.params.and) (to_z-of_z w32 call.kop (search rules)))

@@ -23,5 +23,5 @@ returns-then-refusal-ne0 c = answers _ _ _ (rw (← c.call_refusal-refusal.ensur
 pub returns-in_default : goal.returns-in_default
 returns-in_default c = answers _ _ _ (rw (worked c.before.before, c.in_default.is))
 
-pub returns-then-refusal-ne0 : goal.returns
-returns-then-refusal-ne0 c = answers _ _ _ (rw (worked c.before.before.before, c.in-Settled.is))
+pub returns : goal.returns
+returns c = answers _ _ _ (rw (worked c.before.before.before, c.in-Settled.is))

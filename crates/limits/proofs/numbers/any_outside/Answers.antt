@@ -9,8 +9,8 @@ returns-then-is_outside c = found _ _ c.loop-i.invariant c.loop-i-test.true (sym
 pub loop-i-preserved : goal.loop-i-preserved
 loop-i-preserved c = passed _ _ c.loop-i.invariant c.loop-i-test.true (sym c.is_outside.ensures ∙ c.if-is_outside.false)
 
-pub returns-then-is_outside : goal.returns
-returns-then-is_outside c = ended _ _ c.loop-i.invariant c.loop-i-test.false
+pub returns : goal.returns
+returns c = ended _ _ c.loop-i.invariant c.loop-i-test.false
 
 pub loop-i-init : goal.loop-i-init
 loop-i-init c = refl

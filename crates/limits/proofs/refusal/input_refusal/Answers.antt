@@ -42,5 +42,5 @@ fifth c =
 pub returns-then-too_many_bays : goal.returns-then-too_many_bays
 returns-then-too_many_bays c = rw (fifth c.before, c.if-too_many_bays.true)
 
-pub returns-then-not-is_ioncap_type : goal.returns
-returns-then-not-is_ioncap_type c = rw (fifth c.before, c.if-too_many_bays.false)
+pub returns : goal.returns
+returns c = rw (fifth c.before, c.if-too_many_bays.false)

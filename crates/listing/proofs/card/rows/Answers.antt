@@ -31,6 +31,6 @@ pub rows-requires : goal.rows-requires
 unfolding card_of
 rows-requires c = let r = card_rows c.args.line (c.requires.0 c.if-verdict-ne0.false) in (c.requires.1, r.low, omega (arith, r.high, r.order), c.requires.2)
 
-pub returns-then-verdict-ne0 : goal.returns
+pub returns : goal.returns
 unfolding card_of
-returns-then-verdict-ne0 c = let r = card_rows c.args.line (c.requires.0 c.if-verdict-ne0.false) in (accepted_rows c.args.line _ _ _ _ _ _ (c.requires.0 c.if-verdict-ne0.false) c.if-verdict-ne0.false c.rows.ensures, omega (arith, c.rows.ensures.end, rows_length c.args.table.now (nat_abs (to_z w32 (of_z w32 c.args.line.fields.first))) (nat_abs (to_z w32 (of_z w32 c.args.line.fields.last)) - nat_abs (to_z w32 (of_z w32 c.args.line.fields.first)) + 1), r.low, r.order, r.high))
+returns c = let r = card_rows c.args.line (c.requires.0 c.if-verdict-ne0.false) in (accepted_rows c.args.line _ _ _ _ _ _ (c.requires.0 c.if-verdict-ne0.false) c.if-verdict-ne0.false c.rows.ensures, omega (arith, c.rows.ensures.end, rows_length c.args.table.now (nat_abs (to_z w32 (of_z w32 c.args.line.fields.first))) (nat_abs (to_z w32 (of_z w32 c.args.line.fields.last)) - nat_abs (to_z w32 (of_z w32 c.args.line.fields.first)) + 1), r.low, r.order, r.high))

@@ -5,6 +5,6 @@ pub returns-then-well_formed : goal.returns-then-well_formed
 returns-then-well_formed c =
     line_run _ c.args.line _ _ _ _ _ c.requires c.if-well_formed.true c.run_card.ensures.0
 
-pub returns-then-well_formed : goal.returns
-returns-then-well_formed c =
+pub returns : goal.returns
+returns c =
     line_run _ c.args.line _ _ _ _ _ c.requires c.if-well_formed.false c.run_malformed.ensures.0

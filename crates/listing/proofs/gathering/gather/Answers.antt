@@ -22,5 +22,5 @@ loop-i-preserved c = gather_step _ _ _ _ _ _ c.loop-i.invariant _ _ (search rule
 pub shape_of-line : goal.shape_of-line
 shape_of-line c = c.loop-i.invariant.long
 
-pub returns-then-b-eq10 : goal.returns
-returns-then-b-eq10 c = gather_end _ _ _ _ _ _ c.loop-i.invariant c.loop-i-test.false
+pub returns : goal.returns
+returns c = gather_end _ _ _ _ _ _ c.loop-i.invariant c.loop-i-test.false

@@ -10,5 +10,5 @@ returns-then-not-is_table c = no_table _ _ _ _ _ c.is_table.ensures c.if-not-is_
 pub returns-then-out-lt-ROOM : goal.returns-then-out-lt-ROOM
 returns-then-out-lt-ROOM c = no_room _ _ _ _ c.if-out-lt-ROOM.true
 
-pub returns-then-line-ne-MOST_HELD : goal.returns
-returns-then-line-ne-MOST_HELD c = room_left _ _ _ _ _ c.if-line-ne-MOST_HELD.false c.is_table.ensures c.if-not-is_table.false c.if-out-lt-ROOM.false
+pub returns : goal.returns
+returns c = room_left _ _ _ _ _ c.if-line-ne-MOST_HELD.false c.is_table.ensures c.if-not-is_table.false c.if-out-lt-ROOM.false

@@ -22,5 +22,5 @@ returns-then-x-3 c = minus_over _ c.if-x-3.true c.if-x-4.false
 pub returns-then-x-5 : goal.returns-then-x-5
 returns-then-x-5 c = zero_is _ c.if-x-5.true
 
-pub returns-then-x-2 : goal.returns
-returns-then-x-2 c = none_is _ c.if-x.false c.if-x-3.false c.if-x-5.false
+pub returns : goal.returns
+returns c = none_is _ c.if-x.false c.if-x-3.false c.if-x-5.false

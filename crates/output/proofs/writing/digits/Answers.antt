@@ -14,5 +14,5 @@ loop-rest-preserved c = more _ _ _ _ _ c.loop-rest.invariant c.loop-rest-test.tr
 pub returns-then-i-eq0-2 : goal.returns-then-i-eq0-2
 returns-then-i-eq0-2 c = full _ _ _ _ _ c.loop-rest.invariant c.if-i-eq0-2.true
 
-pub returns-then-i-eq0 : goal.returns
-returns-then-i-eq0 c = ends _ _ _ _ _ c.loop-rest.invariant c.loop-rest-test.false (omega arith)
+pub returns : goal.returns
+returns c = ends _ _ _ _ _ c.loop-rest.invariant c.loop-rest-test.false (omega arith)

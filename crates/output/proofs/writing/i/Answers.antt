@@ -38,8 +38,8 @@ slice_bounds-fill-end-2 c = let s = standing c.before.before.before in simp leng
 pub slice_bounds-fill-end-3 : goal.slice_bounds-fill-end-3
 slice_bounds-fill-end-3 c = let s = standing c.before.before.before.before in sym (length-take-le _ _ (simp length-set (omega (arith, s.long, s.low))))
 
-pub returns-in_default : goal.returns
-returns-in_default c = minus _ _ _ _ _ _ (size c.before.before.before.before.before.before.before.before.before.before.before) (is_minus w64 _ c.ranges.v c.if-v-ge0.false) (standing c.before.before.before.before.before.before.before) c.if-start-eq0.false c.fill-2.ensures
+pub returns : goal.returns
+returns c = minus _ _ _ _ _ _ (size c.before.before.before.before.before.before.before.before.before.before.before) (is_minus w64 _ c.ranges.v c.if-v-ge0.false) (standing c.before.before.before.before.before.before.before) c.if-start-eq0.false c.fill-2.ensures
 
 pub shape_of-out : goal.shape_of-out
 shape_of-out c = ap length (returns c) ∙ field_length _ _

@@ -11,5 +11,5 @@ bounds-out-n-2 c = simp length-set (omega arith)
 pub bounds-out-n-3 : goal.bounds-out-n-3
 bounds-out-n-3 c = simp length-set (omega arith)
 
-pub returns-then-n-lt3 : goal.returns
-returns-then-n-lt3 c = nan_long _ _ c.if-n-lt3.false c.fill-2.ensures
+pub returns : goal.returns
+returns c = nan_long _ _ c.if-n-lt3.false c.fill-2.ensures

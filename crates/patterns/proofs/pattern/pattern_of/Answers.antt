@@ -13,10 +13,23 @@ use Rattle.patterns.specs.declared.pattern.PatternAnswer.{PatternAnswer}
 use Rattle.patterns.proofs.Unsettled.{pattern_answers, type_answers}
 use borrow.Author.Rules.{rules}
 use Rattle.patterns.proofs.pattern.pattern_of.Goals as goal
+use Rattle.patterns.proofs.pattern.pattern_of.Goals.{After-height_in_waves-above}
+
+module _ (c : After-height_in_waves-above) where
+  abbrev antenna : Antenna
+  antenna = c.before.before.before.before.before.before.args.antenna
+
+  abbrev wave : Float
+  wave = c.before.before.before.before.before.before.args.wave
+
+  -- an arm of the match: the type is its key's
+  answered : {n : ℕ} (r : PatternAnswer) → of_z w32 antenna.kop ≡ n → r ≡ pattern_by (to_z w32 n) antenna wave c.before.leg-in-waves.result c.height-in-waves.result
+      → IsAnswer pattern_number pattern_value P.Other 11 (pattern_of antenna wave) (pattern_settles antenna wave) r
+  answered r k = type_answers antenna wave c.before.leg-in-waves.result c.height-in-waves.result r (is_type_lem antenna.kop (search rules) k) c.before.leg-in-waves.ensures c.height-in-waves.ensures
 
 pub returns-in_default : goal.returns-in_default
 unfolding pattern_of
-returns-in_default c = let r = c.in_default.rest in
+returns-in_default c = let r = c.in_default.KEY in
     pattern_answers c.args.antenna c.args.wave _ (rw (
       no_type _ 1 r.0.0.0.0.0.0.0.0.0.1,
       no_type _ 10 r.0.0.0.0.0.0.0.0.1,
@@ -32,52 +45,40 @@ returns-in_default c = let r = c.in_default.rest in
 
 pub returns-in-1 : goal.returns-in-1
 unfolding is_type
-returns-in-1 c = answered c.before.before.before _ c.in-1.keys1 (rw (← c.legs_of.ensures) c.settled.ensures)
+returns-in-1 c = answered c.before.before.before _ c.in-1.KEY (rw (← c.legs_of.ensures) c.settled.ensures)
 
 pub returns-in-10 : goal.returns-in-10
 unfolding is_type
-returns-in-10 c = answered c.before.before.before.before _ c.in-10.keys2 (rw (← c.legs_of-in-10.ensures, ← c.offset_of.ensures) c.settled-in-10.ensures)
+returns-in-10 c = answered c.before.before.before.before _ c.in-10.KEY (rw (← c.legs_of-in-10.ensures, ← c.offset_of.ensures) c.settled-in-10.ensures)
 
 pub returns-in-8 : goal.returns-in-8
 unfolding is_type
-returns-in-8 c = answered c.before.before _ c.in-8.keys3 c.inverted_l_of.ensures
+returns-in-8 c = answered c.before.before _ c.in-8.KEY c.inverted_l_of.ensures
 
 pub returns-in-7 : goal.returns-in-7
 unfolding is_type
-returns-in-7 c = answered c.before.before.before _ c.in-7.keys4 (rw (← c.vee_slope.ensures) c.settled-in-7.ensures)
+returns-in-7 c = answered c.before.before.before _ c.in-7.KEY (rw (← c.vee_slope.ensures) c.settled-in-7.ensures)
 
 pub returns-in-9 : goal.returns-in-9
 unfolding is_type
-returns-in-9 c = answered c.before.before.before _ c.in-9.keys5 (rw (← c.rhombic_slope.ensures) c.settled-in-9.ensures)
+returns-in-9 c = answered c.before.before.before _ c.in-9.KEY (rw (← c.rhombic_slope.ensures) c.settled-in-9.ensures)
 
 pub returns-in-6 : goal.returns-in-6
 unfolding is_type
-returns-in-6 c = answered c.before.before.before.before _ c.in-6.keys6 (rw (← c.curtain_card.ensures, ← c.curtain_row.ensures) c.settled-in-6.ensures)
+returns-in-6 c = answered c.before.before.before.before _ c.in-6.KEY (rw (← c.curtain_card.ensures, ← c.curtain_row.ensures) c.settled-in-6.ensures)
 
 pub returns-in-3 : goal.returns-in-3
 unfolding is_type
-returns-in-3 c = answered c.before.before _ c.in-3.keys7 c.dipole_of.ensures
+returns-in-3 c = answered c.before.before _ c.in-3.KEY c.dipole_of.ensures
 
 pub returns-in-4 : goal.returns-in-4
 unfolding is_type
-returns-in-4 c = answered c.before.before _ c.in-4.keys8 c.dipole_of-in-4.ensures
+returns-in-4 c = answered c.before.before _ c.in-4.KEY c.dipole_of-in-4.ensures
 
 pub returns-in-2 : goal.returns-in-2
 unfolding is_type
-returns-in-2 c = answered c.before.before _ c.in-2.keys9 c.monopole_of.ensures
+returns-in-2 c = answered c.before.before _ c.in-2.KEY c.monopole_of.ensures
 
 pub returns-in-5 : goal.returns-in-5
 unfolding is_type
-returns-in-5 c = answered c.before.before _ c.in-5.keys10 c.monopole_of-in-5.ensures
-
-module _ (c : tie.After-height-in-waves) where
-  abbrev antenna : Antenna
-  antenna = c.before.before.before.before.before.before.args.antenna
-
-  abbrev wave : Float
-  wave = c.before.before.before.before.before.before.args.wave
-
-  -- an arm of the match: the type is its key's
-  answered : {n : ℕ} (r : PatternAnswer) → of_z w32 antenna.kop ≡ n → r ≡ pattern_by (to_z w32 n) antenna wave c.before.leg-in-waves.result c.height-in-waves.result
-      → IsAnswer pattern_number pattern_value P.Other 11 (pattern_of antenna wave) (pattern_settles antenna wave) r
-  answered r k = type_answers antenna wave c.before.leg-in-waves.result c.height-in-waves.result r (is_type_lem antenna.kop (search rules) k) c.before.leg-in-waves.ensures c.height-in-waves.ensures
+returns-in-5 c = answered c.before.before _ c.in-5.KEY c.monopole_of-in-5.ensures

@@ -18,6 +18,6 @@ pub returns-then-b-2 : goal.returns-then-b-2
 unfolding psiv_of round of_bits
 returns-then-b-2 c = rw (c.if-b.false, c.if-b-2.true, c.if-a.false, c.if-a-2.false)
 
-pub returns-then-b : goal.returns
+pub returns : goal.returns
 unfolding psiv_of round of_bits
-returns-then-b c = rw (c.if-b.false, c.if-b-2.false, ← c.atan-2.ensures)
+returns c = rw (c.if-b.false, c.if-b-2.false, ← c.atan-2.ensures)

@@ -12,9 +12,9 @@ pub returns-in_default : goal.returns-in_default
 unfolding row_of
 returns-in_default c = row_answers c.args.antenna c.args.fmc _ (rw (← c.wave_of-wave.ensures, ← c.pattern_of.ensures.0, c.in_default.is))
 
-pub returns-in_default : goal.returns
+pub returns : goal.returns
 unfolding row_of
-returns-in_default c = let antenna = c.args.antenna in
+returns c = let antenna = c.args.antenna in
     let wave = c.wave_of-wave.result in
     let back = to_z-of_z w32 antenna.kop (search rules) in
     let x : c.height_for-x.result ≡ height_for antenna.kop antenna.leg wave = c.height_for-x.ensures ∙ ap (λ (k : ℤ). height_for k antenna.leg wave) back in

@@ -5,6 +5,6 @@ pub returns-then-equal : goal.returns-then-equal
 unfolding counted_of
 returns-then-equal c = rw (c.one_more-compared.ensures, c.if-equal.true)
 
-pub returns-then-equal : goal.returns
+pub returns : goal.returns
 unfolding counted_of
-returns-then-equal c = rw (c.one_more-compared.ensures, c.if-equal.false, c.one_more.ensures)
+returns c = rw (c.one_more-compared.ensures, c.if-equal.false, c.one_more.ensures)
