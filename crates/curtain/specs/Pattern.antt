@@ -27,14 +27,14 @@ fac6_of card row azimuth t =
 
 -- value, from eh and ev
 unfoldable pub value_of : CurtainCard → CurtainRow → Azimuth → Elevation → Ground → Float
-value_of card row azimuth elevation ground =
+value_of card row azimuth elevation earth =
     let q = elevation.q in
     let fac6 = fac6_of card row azimuth elevation.t in
     let m = at_most_ten card.m in
     let waves = waves_of m q row.h1 row.dz in
     let sv = azimuth.sb ⊠ q in
-    let eh = field_of (fac6 ⊠ azimuth.cb) m waves ground.ch ground.psih in
-    let ev = field_of (fac6 ⊠ sv) m waves ground.cv ground.psiv in
+    let eh = field_of (fac6 ⊠ azimuth.cb) m waves earth.ch earth.psih in
+    let ev = field_of (fac6 ⊠ sv) m waves earth.cv earth.psiv in
     root (eh ⊠ eh ⊞ ev ⊠ ev)
 
 -- a value of at most 0.00001 is weak. A NaN is not, and gives NaN
@@ -42,4 +42,4 @@ abbrev pub gain_from : Float → CurtainGain
 gain_from value = cond (le value (num 1 100000)) Weak (Decibels (num 20 1 ⊠ logarithm10 value))
 
 unfoldable pub gain_of : CurtainCard → CurtainRow → Azimuth → Elevation → Ground → CurtainGain
-gain_of card row azimuth elevation ground = gain_from (value_of card row azimuth elevation ground)
+gain_of card row azimuth elevation earth = gain_from (value_of card row azimuth elevation earth)

@@ -93,11 +93,11 @@ fn element_sums(m: usize, waves: Waves, ch: f32, ph: f32, cv: f32, pv: f32) -> B
 }
 
 // `before_h` and `before_v` times the roots over the elements, with the ground's reflections.
-pub(crate) fn fields(before_h: f32, before_v: f32, m: usize, waves: Waves, ground: Ground) -> EhEv
+pub(crate) fn fields(before_h: f32, before_v: f32, m: usize, waves: Waves, earth: Ground) -> EhEv
     requires { m ≤ 10 }
-    ensures { (result.eh ≡ field_of before_h m waves ground.ch ground.psih) × (result.ev ≡ field_of before_v m waves ground.cv ground.psiv) }
+    ensures { (result.eh ≡ field_of before_h m waves earth.ch earth.psih) × (result.ev ≡ field_of before_v m waves earth.cv earth.psiv) }
 {
-    let Ground { ch, psih, cv, psiv } = ground;
+    let Ground { ch, psih, cv, psiv } = earth;
     let h = elementary::sin_cos(psih);
     let v = elementary::sin_cos(psiv);
     let s = element_sums(

@@ -27,15 +27,15 @@ fn value(
     row: CurtainRow,
     azimuth: Azimuth,
     elevation: Elevation,
-    ground: Ground,
+    earth: Ground,
 ) -> f32
-    ensures { result ≡ value_of card row azimuth elevation ground }
+    ensures { result ≡ value_of card row azimuth elevation earth }
 {
     let q = elevation.q;
     let fac6 = fac6(card, row, azimuth, elevation.t);
     let m = at_most_ten(card.m);
     let waves = element_waves(m, q, row.h1, row.dz);
-    let EhEv { eh, ev } = fields(fac6 * azimuth.cb, fac6 * (azimuth.sb * q), m, waves, ground);
+    let EhEv { eh, ev } = fields(fac6 * azimuth.cb, fac6 * (azimuth.sb * q), m, waves, earth);
     root::sqrt(eh * eh + ev * ev)
 }
 
@@ -44,11 +44,11 @@ pub fn curtain_gain(
     row: CurtainRow,
     azimuth: Azimuth,
     elevation: Elevation,
-    ground: Ground,
+    earth: Ground,
 ) -> CurtainGain
-    ensures { result ≡ gain_of card row azimuth elevation ground }
+    ensures { result ≡ gain_of card row azimuth elevation earth }
 {
-    let value = value(card, row, azimuth, elevation, ground);
+    let value = value(card, row, azimuth, elevation, earth);
     if value <= 0.00001 {
         return CurtainGain::Weak;
     }

@@ -19,8 +19,8 @@ use Rattle.rows.specs.Row.{height_for}
 use Rattle.rows.proofs.Height.{height_finite}
 use Rattle.cells.specs.Cell as Cell
 use Rattle.gain_core.specs.Core.{above_ground, work_of, work_number}
-use Rattle.gain_core.specs.declared.core.Worked.{Worked}
-use Rattle.gain_core.specs.declared.core.Worked.TheVariants as W
+use Rattle.gain_core.specs.declared.calls.Worked.{Worked}
+use Rattle.gain_core.specs.declared.calls.Worked.TheVariants as W
 use Rattle.gain_core.proofs.Laws.{OfCall, AboveFloor, left_above, ground_value, zenith_ground_same, number_same, floor_above}
 use Rattle.independence.specs.Antenna.{Answer, floor_plus, carries_height, has_second_call, height_left}
 use Rattle.independence.specs.Laws.{Fills, Laws}

@@ -2,7 +2,7 @@
 use Rattle.std.specs.Prelude.{ℕ, Float}
 use Rattle.single.specs.Single.{num, whole}
 use Rattle.gain_core.specs.Core.{work_of, work_number, work_gain, work_efficiency, work_height}
-use Rattle.gain_core.specs.declared.core.Worked.{Worked}
+use Rattle.gain_core.specs.declared.calls.Worked.{Worked}
 use Rattle.independence.specs.Antenna.{Answer}
 use Rattle.cards.specs.declared.card.Card.{Card}
 use Rattle.cards.specs.Card.{antenna_for}

@@ -12,8 +12,8 @@ use Rattle.single.specs.Single.{num, whole}
 use Rattle.limits.specs.Refusals.{first_refusal}
 use Rattle.limits.specs.Tests.{any_outside}
 use Rattle.antennas.specs.Antenna.{antenna_of}
-use Rattle.gain_core.specs.declared.core.Worked.{Worked}
-use Rattle.gain_core.specs.declared.core.Worked.TheVariants as W
+use Rattle.gain_core.specs.declared.calls.Worked.{Worked}
+use Rattle.gain_core.specs.declared.calls.Worked.TheVariants as W
 use Rattle.ioncap.specs.Gain.{call_outside, mhz_outside, call_refusal, call_work, answered, gain_of, gain_number, gain_value, efficiency_value, height_left}
 use Rattle.ioncap.specs.declared.gain.Gain.{Gain}
 use Rattle.table.specs.Table.{gain_at, efficiency_at}
@@ -148,7 +148,7 @@ module _ (f : Fields) (h : Float) (p : Passes the_antenna f h) (fin : T (finite 
       ∙ sym (ap (λ (g : Gain). height_left g height) (is_work f m 90 (fills m lo hi) (omega arith) height fin'))
 
   pub table_of_calls : TableOfCalls f h (card_table the_antenna f h)
-  table_of_calls = record { ground = ground_cell_lem; above = above_cell; efficiency = efficiency_is; left = left_is }
+  table_of_calls = record { on_ground = ground_cell_lem; above = above_cell; efficiency = efficiency_is; left = left_is }
 
 -- ---- of every list of entries, run on a fresh deck
 pub tables_of_calls : (entries : List (Entry the_antenna)) → TablesOfCalls entries (run the_antenna count_limit fresh entries)

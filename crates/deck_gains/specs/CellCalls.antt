@@ -28,7 +28,7 @@ IsAbove d = 1 ≤ d
 -- the filled rows of a card that finds the height h and leaves the table t
 pub record TableOfCalls (f : Fields) (h : Float) (t : List Float) : Type 0 where
   -- the ground cell's call takes the carried height
-  pub ground : (m : ℕ) → the_antenna.first f ≤ m → m ≤ the_antenna.last f → IsGainOf (cell_call f m 0) (carried_at_row the_antenna f h m) (cell t (ground_at m))
+  pub on_ground : (m : ℕ) → the_antenna.first f ≤ m → m ≤ the_antenna.last f → IsGainOf (cell_call f m 0) (carried_at_row the_antenna f h m) (cell t (ground_at m))
   -- a call above the ground answers the same whatever the height, if that is finite (refusal 9)
   pub above : (m d : ℕ) → the_antenna.first f ≤ m → m ≤ the_antenna.last f → IsAbove d → d < column_count → (height : Float) → T (finite height)
       → IsGainOf (cell_call f m d) height (cell t (gain_at m d))

@@ -15,15 +15,15 @@ interference c psi hwave2 q = image_power c (psi ⊟ hwave2 ⊠ q)
 
 -- `rain`
 unfoldable pub dipole_rain : Dipole → Azimuth → Elevation → Ground → Float
-dipole_rain dipole azimuth elevation ground =
+dipole_rain dipole azimuth elevation earth =
     let sb = azimuth.sb in
     let cb = azimuth.cb in
     let t = elevation.t in
     let q = elevation.q in
     let ss = sb ⊠ sb in
     let c = t ⊠ t in
-    let xkv = interference ground.cv ground.psiv dipole.hwave2 q in
-    let xkh = interference ground.ch ground.psih dipole.hwave2 q in
+    let xkv = interference earth.cv earth.psiv dipole.hwave2 q in
+    let xkh = interference earth.ch earth.psih dipole.hwave2 q in
     let xt1 = cosine (dipole.fac ⊠ sb ⊠ t) ⊟ dipole.cfac in
     let xb1 = num 1 1 ⊟ ss ⊠ c in
     let xt2 = (xkv ⊠ ss ⊠ elevation.r ⊞ xkh ⊠ cb ⊠ cb) ⊘ sin2kl in

@@ -13,8 +13,8 @@ fn interference_of(c: f32, psi: f32, hwave2: f32, q: f32) -> f32
     c * c + 1.0 - 2.0 * c * elementary::cos(psi - hwave2 * q)
 }
 
-pub fn dipole_rain(dipole: Dipole, azimuth: Azimuth, elevation: Elevation, ground: Ground) -> f32
-    ensures { result ≡ dipole_rain dipole azimuth elevation ground }
+pub fn dipole_rain(dipole: Dipole, azimuth: Azimuth, elevation: Elevation, earth: Ground) -> f32
+    ensures { result ≡ dipole_rain dipole azimuth elevation earth }
 {
     let Dipole {
         fac,
@@ -27,8 +27,8 @@ pub fn dipole_rain(dipole: Dipole, azimuth: Azimuth, elevation: Elevation, groun
     let ss = sb * sb;
     let c = t * t;
     let sin2kl = 1.0;
-    let xkv = interference_of(ground.cv, ground.psiv, hwave2, q);
-    let xkh = interference_of(ground.ch, ground.psih, hwave2, q);
+    let xkv = interference_of(earth.cv, earth.psiv, hwave2, q);
+    let xkh = interference_of(earth.ch, earth.psih, hwave2, q);
     let xt1 = elementary::cos(fac * sb * t) - cfac;
     let xb1 = 1.0 - ss * c;
     let xt2 = (xkv * ss * r + xkh * cb * cb) / sin2kl;

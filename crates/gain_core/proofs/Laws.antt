@@ -21,10 +21,10 @@ use Rattle.rows.specs.declared.row.RowAnswer.TheVariants as R
 use Rattle.rows.proofs.Height.{Own, OfRow, row_own}
 use Rattle.cells.specs.Cell.{blends_with_zenith, cell_by, cell_of, cell_gain, power_cell, curtain_cell}
 use Rattle.gain_core.specs.Core.{above_from, above_ground, ground_from, at_ground, work_of, work_number}
-use Rattle.gain_core.specs.declared.core.Call.{Call}
+use Rattle.gain_core.specs.declared.calls.Call.{Call}
 use Rattle.gain_core.proofs.Unsettled.{work_number_lem}
-use Rattle.gain_core.specs.declared.core.Worked.{Worked}
-use Rattle.gain_core.specs.declared.core.Worked.TheVariants.{Settled, Unsettled}
+use Rattle.gain_core.specs.declared.calls.Worked.{Worked}
+use Rattle.gain_core.specs.declared.calls.Worked.TheVariants.{Settled, Unsettled}
 
 -- of a call whose series settle
 abbrev pub OfCall : (Call → Type 0) → Worked → Type 0

@@ -18,8 +18,8 @@ use Rattle.rows.specs.declared.row.RowAnswer.TheVariants as R
 use Rattle.rows.proofs.Unsettled.{row_number_lem}
 use Rattle.cells.specs.Cell.{blends_with_zenith}
 use Rattle.gain_core.specs.Core.{above_from, above_ground, ground_from, at_ground, work_of, ground_settles, work_settles, work_number, work_values, zero_values}
-use Rattle.gain_core.specs.declared.core.Worked.{Worked}
-use Rattle.gain_core.specs.declared.core.Worked.TheVariants.{Settled, Unsettled}
+use Rattle.gain_core.specs.declared.calls.Worked.{Worked}
+use Rattle.gain_core.specs.declared.calls.Worked.TheVariants.{Settled, Unsettled}
 
 of_row_above : (antenna : Antenna) (delta : Float) (e : Elevation) (r : RowAnswer) → work_number (above_from antenna delta e r) ≡ row_number r
 unfolding row_number

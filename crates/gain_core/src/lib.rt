@@ -1,4 +1,4 @@
 // `iongain` within the limits, by value.
-mod core;
+mod calls;
 
-pub use core::{Call, Worked, work, zenith_gain_for};
+pub use calls::{Call, Worked, work, zenith_gain_for};

@@ -115,7 +115,7 @@ module _ (A : Antenna) (L : Laws A) (limit : ℕ) where
   table_rules : (c : A.Card) (h : Float) → Passes A c h → CardRules A c h (card_table A c h)
   table_rules c h p =
       record {
-        ground = ground_rule c h p;
+        on_ground = ground_rule c h p;
         ground_of8 = λ e m lo hi. let t = type8 (A.type_of c) (carried_at_row A c h m) e in ground_rule c h p t.0 m lo hi ∙ ap floor_plus t.1;
         every_gain = floor_rule c h p;
       }

@@ -37,7 +37,7 @@ module _ (A : Antenna) (L : Laws A) (limit : ℕ) where
         the_card = x.the_card;
         next = record { after = after; accepted = record { is_card = x.next.accepted.is_card; verdict = x.next.accepted.verdict }; between = earlier };
         type = x.type;
-        ground = x.ground;
+        on_ground = x.on_ground;
       }
     where
       earlier : (n : ℕ) → k' ≤ n → n < suc j → (outcome_at (o ∷ os) n).verdict ≢ 0
@@ -57,7 +57,7 @@ module _ (A : Antenna) (L : Laws A) (limit : ℕ) where
         the_card = x.the_card;
         next = record { after = zero-le; accepted = record { is_card = x.is_card; verdict = x.verdict }; between = λ n l m. absurd (not-suc-le-zero m) };
         type = x.type;
-        ground = x.ground;
+        on_ground = x.on_ground;
       }
 
   -- ---- a list from two decks of one height

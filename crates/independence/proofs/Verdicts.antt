@@ -52,7 +52,7 @@ pub record DependsOnHeight (A : Antenna) (e : Entry A) (v : ℕ) (i : ℕ) : Typ
   pub is_card : e.line ≡ card the_card
   pub verdict : v ≡ 0
   pub type : T (carries_height (A.type_of the_card))
-  pub ground : i ≡ gain_at (A.first the_card) 0
+  pub on_ground : i ≡ gain_at (A.first the_card) 0
 
 module _ (A : Antenna) (L : Laws A) (limit : ℕ) where
   pub verdict_own : (d : Deck) (n : ℕ) (e : Entry A) → Fit limit d (suc n) → verdict_on A limit d e ≡ first_refusal (own_tests A e d.height)

@@ -45,7 +45,7 @@ pub record MayDiffer (A : Antenna) (entries : List (Entry A)) (outcomes : List O
   pub the_card : A.Card
   pub next : NextAccepted A entries outcomes k j the_card
   pub type : T (carries_height (A.type_of the_card))
-  pub ground : i ≡ ground_at (A.first the_card)
+  pub on_ground : i ≡ ground_at (A.first the_card)
 
 module _ (A : Antenna) where
   -- ---- section 8: the carried height h, by the list and its verdicts alone
@@ -73,7 +73,7 @@ module _ (A : Antenna) where
   pub record CardRules (c : A.Card) (h : Float) (t : List Float) : Type 0 where
     -- "each ground gain in a filled row outside types 3 and 4 is the single-precision sum of -30 and its type's efficiency (type 8's is zero there).
     -- For types 2 and 5 that is taken at the height left by the last cell of an accepted card before it"
-    pub ground : T (not (has_second_call (A.type_of c))) → (m : ℕ) → A.first c ≤ m → m ≤ A.last c
+    pub on_ground : T (not (has_second_call (A.type_of c))) → (m : ℕ) → A.first c ≤ m → m ≤ A.last c
         → cell t (ground_at m) ≡ floor_plus (A.efficiency_of (A.type_of c) (carried_at_row c h m))
     pub ground_of8 : A.type_of c ≡ 8 → (m : ℕ) → A.first c ≤ m → m ≤ A.last c → cell t (ground_at m) ≡ floor_plus (num 0 1)
     -- "outside types 2, 3 and 4, every gain of an accepted card, where it is a number, is above -30 or equals -30 plus that cell's efficiency"

@@ -46,17 +46,17 @@ unfoldable pub hk_of : Float → SineCosine → SineCosine → SineCosine → Fl
 hk_of c yh y z = h1v_of c yh y z ⊠ h1v_of c yh y z ⊞ h2_of c yh y z ⊠ h2_of c yh y z
 
 unfoldable pub interlaced_of : Legs → Offset → Elevation → Ground → Float
-interlaced_of legs o e ground =
+interlaced_of legs o e earth =
     let elfac = elfac_of legs e in
     let elfac2 = elfac ⊠ elfac in
     let y = y_of o e legs.cb in
     let z = z_of o e y in
-    let yh = ground.psih ⊟ num 2 1 ⊠ legs.hwave ⊠ e.q in
-    let yv = ground.psiv ⊟ num 2 1 ⊠ legs.hwave ⊠ e.q in
-    let hk = hk_of ground.ch (sine_cosine yh) (sine_cosine y) (sine_cosine z) in
+    let yh = earth.psih ⊟ num 2 1 ⊠ legs.hwave ⊠ e.q in
+    let yv = earth.psiv ⊟ num 2 1 ⊠ legs.hwave ⊠ e.q in
+    let hk = hk_of earth.ch (sine_cosine yh) (sine_cosine y) (sine_cosine z) in
     let brk = legs.cb ⊟ legs.srhi ⊠ e.t in
     let hrain = elfac2 ⊠ brk ⊠ brk ⊠ hk in
-    let vk = hk_of ground.cv (sine_cosine yv) (sine_cosine y) (sine_cosine z) in
+    let vk = hk_of earth.cv (sine_cosine yv) (sine_cosine y) (sine_cosine z) in
     let brv = legs.sb ⊠ legs.sb ⊠ e.r in
     let vrain = elfac2 ⊠ brv ⊠ vk in
     (hrain ⊞ vrain) ⊠ num 8 10

@@ -70,8 +70,8 @@ fn hk_of(c: f32, yh: SineCosine, y: SineCosine, z: SineCosine) -> f32
 }
 
 // `rain`, before it is taken to dB.
-pub fn interlaced_rain(legs: Legs, offset: Offset, e: Elevation, ground: Ground) -> f32
-    ensures { result ≡ interlaced_of legs offset e ground }
+pub fn interlaced_rain(legs: Legs, offset: Offset, e: Elevation, earth: Ground) -> f32
+    ensures { result ≡ interlaced_of legs offset e earth }
 {
     let Legs {
         sb,
@@ -81,7 +81,7 @@ pub fn interlaced_rain(legs: Legs, offset: Offset, e: Elevation, ground: Ground)
         ..
     } = legs;
     let Elevation { t, q, r, .. } = e;
-    let Ground { ch, cv, psih, psiv } = ground;
+    let Ground { ch, cv, psih, psiv } = earth;
     let htwave = offset.htwave;
     let factor = elfac(legs, e);
     let elfac2 = factor * factor;

@@ -65,11 +65,11 @@ inverted_lvalues Row.Unsettled = zero_inverted_l
 
 -- g2, from u, hk, c and sphip
 unfoldable pub g2_of : InvertedL → Azimuth → Elevation → Ground → Float
-g2_of row azimuth elevation ground =
-    let ch = ground.ch in
+g2_of row azimuth elevation earth =
+    let ch = earth.ch in
     let u = elevation.t ⊠ azimuth.sb in
     let sphip = num 1 1 ⊟ u ⊠ u in
-    let hk = num 1 1 ⊞ ch ⊠ ch ⊟ num 2 1 ⊠ ch ⊠ cosine (ground.psih ⊟ num 2 1 ⊠ row.hwave ⊠ elevation.q) in
+    let hk = num 1 1 ⊞ ch ⊠ ch ⊟ num 2 1 ⊠ ch ⊠ cosine (earth.psih ⊟ num 2 1 ⊠ row.hwave ⊠ elevation.q) in
     let c =
     num 1 1 ⊟ cosine (row.fac2 ⊠ u) ⊠ row.cfac2 ⊟ u ⊠ sine (row.fac2 ⊠ u)
     ⊟ num 5 10 ⊠ row.sfac2 ⊠ row.sfac2 ⊠ (num 1 1 ⊟ u ⊠ u) in
@@ -80,18 +80,18 @@ bprim_of a b = cond (eq a (num 0 1)) (num 0 1) (arctangent (b ⊘ a))
 
 -- f1, from hq, a, b and bprim
 unfoldable pub f1_of : InvertedL → Elevation → Ground → Float
-f1_of row elevation ground =
+f1_of row elevation earth =
     let t = elevation.t in
     let q = elevation.q in
-    let cv = ground.cv in
+    let cv = earth.cv in
     let hq = q ⊠ row.hwave in
     let a = row.cfac2 ⊠ cosine hq ⊟ q ⊠ row.sfac2 ⊠ sine hq ⊟ row.csum in
     let b = q ⊠ row.sfac2 ⊠ cosine hq ⊞ row.cfac2 ⊠ sine hq ⊟ q ⊠ row.ssum in
     let bprim = bprim_of a b in
     cond (eq t (num 0 1)) (num 0 1)
-    ((a ⊠ a ⊞ b ⊠ b) ⊠ (num 1 1 ⊟ num 2 1 ⊠ cv ⊠ cosine (ground.psiv ⊟ num 2 1 ⊠ bprim) ⊞ cv ⊠ cv) ⊘ (t ⊠ t))
+    ((a ⊠ a ⊞ b ⊠ b) ⊠ (num 1 1 ⊟ num 2 1 ⊠ cv ⊠ cosine (earth.psiv ⊟ num 2 1 ⊠ bprim) ⊞ cv ⊠ cv) ⊘ (t ⊠ t))
 
 -- `rain`
 unfoldable pub inverted_lrain : InvertedL → Azimuth → Elevation → Ground → Float
-inverted_lrain row azimuth elevation ground =
-    num 30 1 ⊠ (g2_of row azimuth elevation ground ⊞ f1_of row elevation ground) ⊘ row.ra
+inverted_lrain row azimuth elevation earth =
+    num 30 1 ⊠ (g2_of row azimuth elevation earth ⊞ f1_of row elevation earth) ⊘ row.ra

@@ -69,17 +69,16 @@ pub fn inverted_l_row(fac: f32, hwave: f32) -> InvertedLRow
 }
 
 // The leg's part.
-fn g2(row: InvertedL, azimuth: Azimuth, elevation: Elevation, ground: Ground) -> f32
-    ensures { result ≡ g2_of row azimuth elevation ground }
+fn g2(row: InvertedL, azimuth: Azimuth, elevation: Elevation, earth: Ground) -> f32
+    ensures { result ≡ g2_of row azimuth elevation earth }
 {
     let u = elevation.t * azimuth.sb;
     let sphip = 1.0 - u * u;
     if sphip == 0.0 {
         return 0.0;
     }
-    let ch = ground.ch;
-    let hk = 1.0 + ch * ch
-        - 2.0 * ch * elementary::cos(ground.psih - 2.0 * row.hwave * elevation.q);
+    let ch = earth.ch;
+    let hk = 1.0 + ch * ch - 2.0 * ch * elementary::cos(earth.psih - 2.0 * row.hwave * elevation.q);
     let both = elementary::sin_cos(row.fac2 * u);
     let c = 1.0 - both.cosine * row.cfac2 - u * both.sine - 0.5 * row.sfac2 * row.sfac2 * sphip;
     hk * elementary::powi2(2.0 * c * azimuth.cb / sphip)
@@ -96,8 +95,8 @@ fn bprim_of(a: f32, b: f32) -> f32
 }
 
 // The mast's part.
-fn f1(row: InvertedL, elevation: Elevation, ground: Ground) -> f32
-    ensures { result ≡ f1_of row elevation ground }
+fn f1(row: InvertedL, elevation: Elevation, earth: Ground) -> f32
+    ensures { result ≡ f1_of row elevation earth }
 {
     let t = elevation.t;
     if t == 0.0 {
@@ -108,20 +107,15 @@ fn f1(row: InvertedL, elevation: Elevation, ground: Ground) -> f32
     let a = row.cfac2 * both.cosine - q * row.sfac2 * both.sine - row.csum;
     let b = q * row.sfac2 * both.cosine + row.cfac2 * both.sine - q * row.ssum;
     let bprim = bprim_of(a, b);
-    let cv = ground.cv;
-    let phase = elementary::cos(ground.psiv - 2.0 * bprim);
+    let cv = earth.cv;
+    let phase = elementary::cos(earth.psiv - 2.0 * bprim);
     (a * a + b * b) * (1.0 - 2.0 * cv * phase + cv * cv) / (t * t)
 }
 
-pub fn inverted_l_rain(
-    row: InvertedL,
-    azimuth: Azimuth,
-    elevation: Elevation,
-    ground: Ground,
-) -> f32
-    ensures { result ≡ inverted_lrain row azimuth elevation ground }
+pub fn inverted_l_rain(row: InvertedL, azimuth: Azimuth, elevation: Elevation, earth: Ground) -> f32
+    ensures { result ≡ inverted_lrain row azimuth elevation earth }
 {
-    let g2 = g2(row, azimuth, elevation, ground);
-    let f1 = f1(row, elevation, ground);
+    let g2 = g2(row, azimuth, elevation, earth);
+    let f1 = f1(row, elevation, earth);
     30.0 * (g2 + f1) / row.ra
 }

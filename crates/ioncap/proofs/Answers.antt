@@ -10,8 +10,8 @@ use Rattle.single.specs.Single.{num}
 use Rattle.limits.proofs.None.{any_holds, zero_none}
 use Rattle.gain_core.specs.Core.{work_number, work_gain, work_efficiency, work_height}
 use Rattle.ioncap.specs.Gain.{call_tests, call_refusal, call_work, answered, gain_of, gain_number, gain_value, efficiency_value, height_left, call_number, call_gain, call_efficiency, call_height}
-use Rattle.gain_core.specs.declared.core.Worked.{Worked}
-use Rattle.gain_core.specs.declared.core.Worked.TheVariants as W
+use Rattle.gain_core.specs.declared.calls.Worked.{Worked}
+use Rattle.gain_core.specs.declared.calls.Worked.TheVariants as W
 use Rattle.ioncap.specs.declared.gain.GainCall.{GainCall}
 use Rattle.ioncap.specs.declared.gain.Gain.{Gain}
 use Rattle.ioncap.specs.declared.gain.Gain.TheVariants.{Refused}

@@ -8,8 +8,8 @@ use Rattle.limits.specs.Refusals.{Test, first_refusal}
 use Rattle.limits.specs.Tests.{any_outside, height_test, input_tests}
 use Rattle.antennas.specs.Antenna.{antenna_of}
 use Rattle.gain_core.specs.Core.{work_of, work_number, work_gain, work_efficiency, work_height}
-use Rattle.gain_core.specs.declared.core.Worked.{Worked}
-use Rattle.gain_core.specs.declared.core.Worked.TheVariants as W
+use Rattle.gain_core.specs.declared.calls.Worked.{Worked}
+use Rattle.gain_core.specs.declared.calls.Worked.TheVariants as W
 use Rattle.ioncap.specs.declared.gain.GainCall.{GainCall}
 use Rattle.ioncap.specs.declared.gain.Gain.{Gain}
 use Rattle.ioncap.specs.declared.gain.Gain.TheVariants.{Accepted, Refused}

@@ -100,12 +100,12 @@ pattern_value Unsettled = P.Other
 
 -- `rain` before label 385. The curtain's is in dB already: see `curtain_cell`, cells/specs/Cell.antt
 unfoldable pub power_of : Pattern → Azimuth → Elevation → Ground → Float
-power_of (P.Rhombic legs) azimuth e ground = rhombic_of legs e ground
-power_of (P.Interlaced legs offset) azimuth e ground = interlaced_of legs offset e ground
-power_of (P.Vee slope) azimuth e ground = vee_rain slope e ground
-power_of (P.SlopingRhombic slope) azimuth e ground = sloping_rhombic_rain slope e ground
-power_of (P.Curtain card row) azimuth e ground = num 0 1
-power_of (P.Wire row) azimuth e ground = dipole_rain row azimuth e ground
-power_of (P.Vertical row) azimuth e ground = monopole_rain row e ground
-power_of (P.Inverted row) azimuth e ground = inverted_lrain row azimuth e ground
-power_of P.Other azimuth e ground = num 0 1
+power_of (P.Rhombic legs) azimuth e earth = rhombic_of legs e earth
+power_of (P.Interlaced legs offset) azimuth e earth = interlaced_of legs offset e earth
+power_of (P.Vee slope) azimuth e earth = vee_rain slope e earth
+power_of (P.SlopingRhombic slope) azimuth e earth = sloping_rhombic_rain slope e earth
+power_of (P.Curtain card row) azimuth e earth = num 0 1
+power_of (P.Wire row) azimuth e earth = dipole_rain row azimuth e earth
+power_of (P.Vertical row) azimuth e earth = monopole_rain row e earth
+power_of (P.Inverted row) azimuth e earth = inverted_lrain row azimuth e earth
+power_of P.Other azimuth e earth = num 0 1

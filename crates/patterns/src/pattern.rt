@@ -115,21 +115,21 @@ pub fn pattern_of(antenna: Antenna, wave: f32) -> PatternAnswer
 
 // `rain` before it is taken to dB. The curtain's is in dB from the start: the crate
 // `cells` takes it from `curtain`.
-pub fn power_of(pattern: Pattern, azimuth: Azimuth, elevation: Elevation, ground: Ground) -> f32
-    ensures { result ≡ power_of pattern azimuth elevation ground }
+pub fn power_of(pattern: Pattern, azimuth: Azimuth, elevation: Elevation, earth: Ground) -> f32
+    ensures { result ≡ power_of pattern azimuth elevation earth }
 {
     match pattern {
-        Pattern::Rhombic(legs) => rhombics::rhombic_rain(legs, elevation, ground),
+        Pattern::Rhombic(legs) => rhombics::rhombic_rain(legs, elevation, earth),
         Pattern::Interlaced(legs, offset) => {
-            interlaced::interlaced_rain(legs, offset, elevation, ground)
+            interlaced::interlaced_rain(legs, offset, elevation, earth)
         }
-        Pattern::Vee(slope) => sloping_patterns::vee_rain(slope, elevation, ground),
+        Pattern::Vee(slope) => sloping_patterns::vee_rain(slope, elevation, earth),
         Pattern::SlopingRhombic(slope) => {
-            sloping_patterns::sloping_rhombic_rain(slope, elevation, ground)
+            sloping_patterns::sloping_rhombic_rain(slope, elevation, earth)
         }
-        Pattern::Wire(row) => dipoles::dipole_rain(row, azimuth, elevation, ground),
-        Pattern::Vertical(row) => verticals::monopole_rain(row, elevation, ground),
-        Pattern::Inverted(row) => inverted_l::inverted_l_rain(row, azimuth, elevation, ground),
+        Pattern::Wire(row) => dipoles::dipole_rain(row, azimuth, elevation, earth),
+        Pattern::Vertical(row) => verticals::monopole_rain(row, elevation, earth),
+        Pattern::Inverted(row) => inverted_l::inverted_l_rain(row, azimuth, elevation, earth),
         Pattern::Curtain(_, _) => 0.0,
         Pattern::Other => 0.0,
     }

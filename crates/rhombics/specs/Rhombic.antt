@@ -13,7 +13,7 @@ unfoldable pub with_image : Float → Float → Float → Float → Float
 with_image c psi hwave q = image_power c (psi ⊟ num 2 1 ⊠ hwave ⊠ q)
 
 unfoldable pub rhombic_of : Legs → Elevation → Ground → Float
-rhombic_of legs e ground =
+rhombic_of legs e earth =
     num 32 10 ⊠ square (elfac_of legs e)
-    ⊠ (square (legs.cb ⊟ legs.srhi ⊠ e.t) ⊠ with_image ground.ch ground.psih legs.hwave e.q
-    ⊞ legs.sb ⊠ legs.sb ⊠ with_image ground.cv ground.psiv legs.hwave e.q ⊠ e.r)
+    ⊠ (square (legs.cb ⊟ legs.srhi ⊠ e.t) ⊠ with_image earth.ch earth.psih legs.hwave e.q
+    ⊞ legs.sb ⊠ legs.sb ⊠ with_image earth.cv earth.psiv legs.hwave e.q ⊠ e.r)

@@ -14,13 +14,13 @@ fn with_image(c: f32, psi: f32, hwave: f32, q: f32) -> f32
 }
 
 // `rain`, before it is taken to dB.
-pub fn rhombic_rain(legs: Legs, e: Elevation, ground: Ground) -> f32
-    ensures { result ≡ rhombic_of legs e ground }
+pub fn rhombic_rain(legs: Legs, e: Elevation, earth: Ground) -> f32
+    ensures { result ≡ rhombic_of legs e earth }
 {
     let factor = elfac(legs, e);
     let brk = legs.cb - legs.srhi * e.t;
-    let horizontal = with_image(ground.ch, ground.psih, legs.hwave, e.q);
-    let vertical = with_image(ground.cv, ground.psiv, legs.hwave, e.q);
+    let horizontal = with_image(earth.ch, earth.psih, legs.hwave, e.q);
+    let vertical = with_image(earth.cv, earth.psiv, legs.hwave, e.q);
     let sb = legs.sb;
     3.2 * (factor * factor) * (brk * brk * horizontal + sb * sb * vertical * e.r)
 }

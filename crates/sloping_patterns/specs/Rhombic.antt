@@ -31,7 +31,7 @@ field_of x y c cosw sinw legs images =
 
 -- `rain`, with the phases moved by half a turn
 unfoldable pub sloping_rhombic_rain : Slope → Elevation → Ground → Float
-sloping_rhombic_rain slope elevation ground =
+sloping_rhombic_rain slope elevation earth =
     let d = direction_of slope elevation in
     let legs = leg_pair_of slope.fac2 d.u1 d.u2 in
     let images = leg_pair_of slope.fac2 d.u3 d.u4 in
@@ -39,8 +39,8 @@ sloping_rhombic_rain slope elevation ground =
     let y7 = d.copsi5 ⊘ d.u3 ⊟ d.copsi6 ⊘ d.u4 in
     let x8 = slope.sidif ⊘ d.u1 ⊟ slope.sisum ⊘ d.u2 in
     let y8 = slope.sidif ⊘ d.u3 ⊟ slope.sisum ⊘ d.u4 in
-    let w = reflected_of (ground.psih ⊞ pi) (ground.psiv ⊟ pi) slope.hwave2 elevation.q in
-    let v = field_of x7 y7 ground.cv w.w3 w.w4 legs images in
-    let h = field_of x8 y8 ground.ch w.w1 w.w2 legs images in
+    let w = reflected_of (earth.psih ⊞ pi) (earth.psiv ⊟ pi) slope.hwave2 elevation.q in
+    let v = field_of x7 y7 earth.cv w.w3 w.w4 legs images in
+    let h = field_of x8 y8 earth.ch w.w1 w.w2 legs images in
     let pp = slope.pp in
     num 5 100 ⊠ (v.re ⊠ v.re ⊞ v.im ⊠ v.im ⊞ pp ⊠ pp ⊠ (h.re ⊠ h.re ⊞ h.im ⊠ h.im))

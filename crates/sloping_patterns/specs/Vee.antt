@@ -67,12 +67,12 @@ vertical_of d p w cv =
 
 -- `rain`
 unfoldable pub vee_rain : Slope → Elevation → Ground → Float
-vee_rain slope elevation ground =
+vee_rain slope elevation earth =
     let d = direction_of slope elevation in
-    let w = reflected_of ground.psih ground.psiv slope.hwave2 elevation.q in
+    let w = reflected_of earth.psih earth.psiv slope.hwave2 elevation.q in
     let p = leg_phases_of slope.fac2 d in
-    let h = horizontal_of slope d p w ground.ch in
-    let v = vertical_of d p w ground.cv in
+    let h = horizontal_of slope d p w earth.ch in
+    let v = vertical_of d p w earth.cv in
     let pp = slope.pp in
     let rain = num 25 1000 ⊠ (pp ⊠ pp ⊠ (h.re ⊠ h.re ⊞ h.im ⊠ h.im) ⊞ v.re ⊠ v.re ⊞ v.im ⊠ v.im) in
     rain ⊠ num 2 1

@@ -39,8 +39,8 @@ fn field_of(x: f32, y: f32, c: f32, cosw: f32, sinw: f32, legs: LegPair, images:
     }
 }
 
-pub fn sloping_rhombic_rain(slope: Slope, elevation: Elevation, ground: Ground) -> f32
-    ensures { result ≡ sloping_rhombic_rain slope elevation ground }
+pub fn sloping_rhombic_rain(slope: Slope, elevation: Elevation, earth: Ground) -> f32
+    ensures { result ≡ sloping_rhombic_rain slope elevation earth }
 {
     let d = direction_of(slope, elevation);
     let Direction { u1, u2, u3, u4, .. } = d;
@@ -50,14 +50,9 @@ pub fn sloping_rhombic_rain(slope: Slope, elevation: Elevation, ground: Ground) 
     let y7 = d.copsi5 / u3 - d.copsi6 / u4;
     let x8 = slope.sidif / u1 - slope.sisum / u2;
     let y8 = slope.sidif / u3 - slope.sisum / u4;
-    let w = reflected_of(
-        ground.psih + PI,
-        ground.psiv - PI,
-        slope.hwave2,
-        elevation.q,
-    );
-    let v = field_of(x7, y7, ground.cv, w.w3, w.w4, legs, images);
-    let h = field_of(x8, y8, ground.ch, w.w1, w.w2, legs, images);
+    let w = reflected_of(earth.psih + PI, earth.psiv - PI, slope.hwave2, elevation.q);
+    let v = field_of(x7, y7, earth.cv, w.w3, w.w4, legs, images);
+    let h = field_of(x8, y8, earth.ch, w.w1, w.w2, legs, images);
     let pp = slope.pp;
     0.05 * (v.re * v.re + v.im * v.im + pp * pp * (h.re * h.re + h.im * h.im))
 }

@@ -75,14 +75,14 @@ fn vertical_of(d: Direction, p: LegPhases, w: ReflectedPhase, cv: f32) -> Field
     }
 }
 
-pub fn vee_rain(slope: Slope, elevation: Elevation, ground: Ground) -> f32
-    ensures { result ≡ vee_rain slope elevation ground }
+pub fn vee_rain(slope: Slope, elevation: Elevation, earth: Ground) -> f32
+    ensures { result ≡ vee_rain slope elevation earth }
 {
     let d = direction_of(slope, elevation);
-    let w = reflected_of(ground.psih, ground.psiv, slope.hwave2, elevation.q);
+    let w = reflected_of(earth.psih, earth.psiv, slope.hwave2, elevation.q);
     let p = leg_phases_of(slope.fac2, d);
-    let h = horizontal_of(slope, d, p, w, ground.ch);
-    let v = vertical_of(d, p, w, ground.cv);
+    let h = horizontal_of(slope, d, p, w, earth.ch);
+    let v = vertical_of(d, p, w, earth.cv);
     let pp = slope.pp;
     let rain = 0.025 * (pp * pp * (h.re * h.re + h.im * h.im) + v.re * v.re + v.im * v.im);
     rain * 2.0

@@ -61,7 +61,7 @@ not_zero v = cond (eq v (num 0 1)) (num 1 100000000) v
 
 -- `rain`
 unfoldable pub monopole_rain : Monopole → Elevation → Ground → Float
-monopole_rain row elevation ground =
+monopole_rain row elevation earth =
     let q = elevation.q in
     let t = elevation.t in
     let hwave = row.hwave in
@@ -69,5 +69,5 @@ monopole_rain row elevation ground =
     let bprim = arctangent ((sine (hwave ⊠ q) ⊟ q ⊠ row.shwave) ⊘ not_zero top) in
     num 30 1 ⊠ (
     square (top ⊘ (t ⊠ cosine bprim))
-    ⊠ image_power ground.cv (ground.psiv ⊟ num 2 1 ⊠ bprim))
+    ⊠ image_power earth.cv (earth.psiv ⊟ num 2 1 ⊠ bprim))
     ⊘ row.ra

@@ -73,16 +73,16 @@ fn not_zero(v: f32) -> f32
     if v == 0.0 { 0.00000001 } else { v }
 }
 
-pub fn monopole_rain(row: Monopole, elevation: Elevation, ground: Ground) -> f32
-    ensures { result ≡ monopole_rain row elevation ground }
+pub fn monopole_rain(row: Monopole, elevation: Elevation, earth: Ground) -> f32
+    ensures { result ≡ monopole_rain row elevation earth }
 {
     let q = elevation.q;
-    let cv = ground.cv;
+    let cv = earth.cv;
     let both = elementary::sin_cos(row.hwave * q);
     let top = both.cosine - row.chwave;
     let denom = not_zero(top);
     let bprim = elementary::atan((both.sine - q * row.shwave) / denom);
     let factor = elementary::powi2(top / (elevation.t * elementary::cos(bprim)));
-    let phase = elementary::cos(ground.psiv - 2.0 * bprim);
+    let phase = elementary::cos(earth.psiv - 2.0 * bprim);
     30.0 * (factor * (cv * cv + 1.0 - 2.0 * cv * phase)) / row.ra
 }

@@ -10,8 +10,8 @@ returns-in_default c = dipole_answers c.args.fac c.args.hwave _ (rw (← c.integ
 pub returns : goal.returns
 unfolding dipole_row round of_bits
 returns c = dipole_answers c.args.fac c.args.hwave _ (rw (
-      ← c.integral_pair.ensures.0,
-      c.in-Settled.is,
-      ← c.xr_of-xr.ensures,
-      ← c.cos-cfac.ensures,
-    ))
+  ← c.integral_pair.ensures.0,
+  c.in-Settled.is,
+  ← c.xr_of-xr.ensures,
+  ← c.cos-cfac.ensures,
+))

@@ -9,9 +9,9 @@ returns-then-t c = rw c.if-t.true
 pub returns : goal.returns
 unfolding f1_of round of_bits
 returns c = rw (
-      c.if-t.false,
-      ← c.sin_cos-both.ensures.0,
-      ← c.sin_cos-both.ensures.1,
-      ← c.bprim_of-bprim.ensures,
-      ← c.cos-phase.ensures,
-    )
+  c.if-t.false,
+  ← c.sin_cos-both.ensures.0,
+  ← c.sin_cos-both.ensures.1,
+  ← c.bprim_of-bprim.ensures,
+  ← c.cos-phase.ensures,
+)

@@ -9,9 +9,9 @@ returns-then-sphip c = rw c.if-sphip.true
 pub returns : goal.returns
 unfolding g2_of round of_bits
 returns c = rw (
-      c.if-sphip.false,
-      ← c.cos.ensures,
-      ← c.sin_cos-both.ensures.0,
-      ← c.sin_cos-both.ensures.1,
-      ← c.powi2.ensures,
-    )
+  c.if-sphip.false,
+  ← c.cos.ensures,
+  ← c.sin_cos-both.ensures.0,
+  ← c.sin_cos-both.ensures.1,
+  ← c.powi2.ensures,
+)

@@ -10,11 +10,11 @@ returns-in_default c = inverted_l_answers c.args.fac c.args.hwave _ (rw (← c.r
 pub returns : goal.returns
 unfolding inverted_lrow round of_bits
 returns c = inverted_l_answers c.args.fac c.args.hwave _ (rw (
-      ← c.resistance_of.ensures.0,
-      c.in-Settled.is,
-      ← c.eff8_of-eff8.ensures,
-      ← c.sin_cos-of_leg.ensures.0,
-      ← c.sin_cos-of_leg.ensures.1,
-      ← c.sin_cos-of_sum.ensures.0,
-      ← c.sin_cos-of_sum.ensures.1,
-    ))
+  ← c.resistance_of.ensures.0,
+  c.in-Settled.is,
+  ← c.eff8_of-eff8.ensures,
+  ← c.sin_cos-of_leg.ensures.0,
+  ← c.sin_cos-of_leg.ensures.1,
+  ← c.sin_cos-of_sum.ensures.0,
+  ← c.sin_cos-of_sum.ensures.1,
+))

@@ -9,7 +9,7 @@ returns-in_default c = resistance_answers c.args.d c.args.z _ (rw (← c.integra
 pub returns : goal.returns
 unfolding resistance_of
 returns c = resistance_answers c.args.d c.args.z _ (rw (
-      ← c.integral_pair.ensures.0,
-      c.in-Settled.is,
-      ← c.resistance_from.ensures,
-    ))
+  ← c.integral_pair.ensures.0,
+  c.in-Settled.is,
+  ← c.resistance_from.ensures,
+))

@@ -2,7 +2,7 @@ use Rattle.cells.proofs.Blends.{blends_read}
 use lib.Ieee.{round, of_bits}
 use Rattle.gain_core.specs.Core.{zenith_gain_for}
 use borrow.Author.Rules.{rules}
-use Rattle.gain_core.proofs.core.zenith_gain_for.Goals as goal
+use Rattle.gain_core.proofs.calls.zenith_gain_for.Goals as goal
 
 pub returns-then-blends_with_zenith : goal.returns-then-blends_with_zenith
 unfolding zenith_gain_for

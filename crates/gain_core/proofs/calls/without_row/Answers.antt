@@ -4,7 +4,7 @@ use lib.Ieee.{round, of_bits}
 use mir.Syntax.{w32}
 use mir.ValLaws.{to_z-of_z}
 use borrow.Author.Rules.{rules}
-use Rattle.gain_core.proofs.core.without_row.Goals as goal
+use Rattle.gain_core.proofs.calls.without_row.Goals as goal
 
 pub returns-then-delta : goal.returns-then-delta
 unfolding round of_bits

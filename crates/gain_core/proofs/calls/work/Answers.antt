@@ -15,11 +15,11 @@ use Rattle.rows.specs.Row.{row_of}
 use Rattle.rows.specs.declared.row.Row.{Row}
 use Rattle.rows.specs.declared.row.RowAnswer.TheVariants as R
 use Rattle.gain_core.specs.Core.{zenith_gain_for, above_ground, at_ground, work_of}
-use Rattle.gain_core.specs.declared.core.Worked.TheVariants.{Settled, Unsettled}
+use Rattle.gain_core.specs.declared.calls.Worked.TheVariants.{Settled, Unsettled}
 use Rattle.gain_core.proofs.Unsettled.{all_answers}
 use borrow.Author.Rules.{rules}
-use Rattle.gain_core.proofs.core.work.Goals as goal
-use Rattle.gain_core.proofs.core.work.Goals.{After-without_row}
+use Rattle.gain_core.proofs.calls.work.Goals as goal
+use Rattle.gain_core.proofs.calls.work.Goals.{After-without_row}
 
 module _ (antenna : Antenna) (fmc delta : Float) (e : Elevation) (height : Float) where
   abbrev ground : Bool
