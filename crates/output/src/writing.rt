@@ -86,9 +86,9 @@ fn not_a_number(out: &mut [u8])
         return;
     }
     fill(out, b' ');
-    out[n - 3] = b'n';
+    out[n - 3] = b'N';
     out[n - 2] = b'a';
-    out[n - 1] = b'n';
+    out[n - 1] = b'N';
 }
 
 // The hundredths of x in the whole of out.

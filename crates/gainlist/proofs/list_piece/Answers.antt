@@ -11,7 +11,7 @@ use Rattle.gainlist.proofs.list_piece.Goals.{After-step-r}
 advanced : (c : After-step-r) → Advance c.args.piece.now c.loop-used.out c.loop-used.used c.step-r.result
 advanced c = advance _ _ c.args.piece.now _ _ _ c.loop-used.used _ _ _ _ c.loop-used.invariant.kept c.loop-used-test.true c.step-r.ensures
 
-kept : (c : After-step-r) → let l = c.loop-used in SameLengths l.line l.table l.out c.step-r.new.1.0 c.step-r.new.1.1.1.0 c.step-r.new.1.1.1.1.0
+kept : (c : After-step-r) → let l = c.loop-used in SameLengths l.line l.table l.out c.step-r.new.line c.step-r.new.table c.step-r.new.out
 kept c = search rules
 
 pub flush_full-s-requires : goal.flush_full-s-requires

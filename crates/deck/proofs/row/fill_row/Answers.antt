@@ -16,7 +16,7 @@ returns-in_default c = row_unsettled _ _ _ _ _ (sym c.row_of.ensures.0 ∙ c.in_
 ground_stored : (c : After-ground_cell) → let s = c.args in length (set s.table.now ((s.m - 1) * 91) c.ground_cell.result) ≡ length s.table.now
 ground_stored c = simp length-set
 
-above_stored : (c : After-fill_above) → length c.fill_above.new.1.1.1.1.1.1.1.0 ≡ length c.args.table.now
+above_stored : (c : After-fill_above) → length c.fill_above.new.table ≡ length c.args.table.now
 above_stored c = c.fill_above.ensures.1 ∙ ground_stored c.before.before.before
 
 pub overflow_sub-table : goal.overflow_sub-table

@@ -25,7 +25,7 @@ pub list_line-listed-requires : goal.list_line-listed-requires
 list_line-listed-requires c = let r = ready c.before.before.before.before.before in (omega (arith, c.held_in-held.ensures, held_low c.args.session.held, r.line_length), r.table_length_lem, omega (arith, r.room))
 
 pub counts-requires-2 : goal.counts-requires-2
-counts-requires-2 c = let r = ready c.before.before.before.before.before.before.before.before.before.before.before.before.before in let l : length c.list_line-listed.new.1.1.1.1.0 ≡ length c.args.out.now = search rules in omega (arith, c.list_line-listed.ensures.within, l, r.room)
+counts-requires-2 c = let r = ready c.before.before.before.before.before.before.before.before.before.before.before.before.before in let l : length c.list_line-listed.new.out ≡ length c.args.out.now = search rules in omega (arith, c.list_line-listed.ensures.within, l, r.room)
 
 pub returns : goal.returns
 returns c = finish_held _ _ _ _ _ _ c.is_ready.ensures _ _ _ c.list_line-listed.result _ c.if-not-is_ready.false c.counts-2.ensures _ c.held_in-held.ensures c.if-held-eq0.false c.list_line-listed.ensures

@@ -8,7 +8,7 @@ pub returns-then-x : goal.returns-then-x
 returns-then-x c = plus_over _ c.if-x.true c.if-x-2.false
 
 pub positive-requires-then-x-4 : goal.positive-requires-then-x-4
-positive-requires-then-x-4 c = minus_in _ c.if-x-3.true c.if-x-4.true
+positive-requires-then-x-4 c = let bounds = minus_in _ c.if-x-3.true c.if-x-4.true in record { x_value = bounds.0; binary32_value = bounds.1 }
 
 pub overflow_sub-result : goal.overflow_sub-result
 overflow_sub-result c = turns _ c.positive-then-x-4.ensures.1

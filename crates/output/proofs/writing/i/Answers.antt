@@ -11,7 +11,7 @@ size : (c : After-digits) → c.magnitude.result ≡ nat_abs c.args.v
 size c = c.magnitude.ensures ∙ ap nat_abs (to_z-of_z w64 _ c.ranges.v)
 
 -- where they stand
-standing : (c : In-At-2) → Stands c.magnitude.result c.args.out.now c.digits.new.1.0 c.in-At.start
+standing : (c : In-At-2) → Stands c.magnitude.result c.args.out.now c.digits.new.out c.in-At.start
 standing c = at _ _ _ _ _ c.digits.ensures c.in-At.is
 
 pub returns-in_default : goal.returns-in_default

@@ -16,7 +16,7 @@ no_zero (negsuc k) h = refl
 
 pub returns-in-0 : goal.returns-in-0
 unfolding model_of
-returns-in-0 c = rw (is_type_lem c.args.number (search rules) c.in-0.KEY)
+returns-in-0 c = rw (is_type_lem c.args.number (search rules) c.in-0.in-0-own.keys1)
 
 pub returns-in_default : goal.returns-in_default
-returns-in_default c = rw (no_zero _ c.in_default.KEY.1)
+returns-in_default c = rw (no_zero _ c.in_default.in_default-own.rest.1)

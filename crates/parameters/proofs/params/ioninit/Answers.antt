@@ -20,7 +20,7 @@ typed c e = is_type_lem (type_of c) (search rules) e
 -- any other type
 pub returns-in_default : goal.returns-in_default
 unfolding ioninit_of round of_bits
-returns-in_default c = let r = c.in_default.KEY in rw (
+returns-in_default c = let r = c.in_default.in_default-own.rest in rw (
   no_type _ 1 r.0.0.0.0.0.0.0.0.0.1,
   no_type _ 2 r.0.0.0.0.0.0.0.0.1,
   no_type _ 3 r.0.0.0.0.0.0.0.1,
@@ -35,40 +35,40 @@ returns-in_default c = let r = c.in_default.KEY in rw (
 
 pub returns-in-1 : goal.returns-in-1
 unfolding ioninit_of is_type round of_bits
-returns-in-1 c = rw (typed c.before.before c.in-1.KEY) c.params.ensures
+returns-in-1 c = rw (typed c.before.before c.in-1.in-1-own.keys1) c.params.ensures
 
 pub returns-in-2 : goal.returns-in-2
 unfolding ioninit_of is_type round of_bits
-returns-in-2 c = rw (typed c.before.before c.in-2.KEY) c.params-in-2.ensures
+returns-in-2 c = rw (typed c.before.before c.in-2.in-2-own.keys2) c.params-in-2.ensures
 
 pub returns-in-3 : goal.returns-in-3
 unfolding ioninit_of is_type round of_bits
-returns-in-3 c = rw (typed c.before.before c.in-3.KEY) c.params-in-3.ensures
+returns-in-3 c = rw (typed c.before.before c.in-3.in-3-own.keys3) c.params-in-3.ensures
 
 pub returns-in-4 : goal.returns-in-4
 unfolding ioninit_of is_type round of_bits
-returns-in-4 c = rw (typed c.before.before c.in-4.KEY) c.params-in-4.ensures
+returns-in-4 c = rw (typed c.before.before c.in-4.in-4-own.keys4) c.params-in-4.ensures
 
 pub returns-in-5 : goal.returns-in-5
 unfolding ioninit_of is_type round of_bits
-returns-in-5 c = rw (typed c.before.before c.in-5.KEY) c.params-in-5.ensures
+returns-in-5 c = rw (typed c.before.before c.in-5.in-5-own.keys5) c.params-in-5.ensures
 
 pub returns-in-6 : goal.returns-in-6
 unfolding ioninit_of is_type round of_bits
-returns-in-6 c = rw (typed c.before.before c.in-6.KEY) c.params-in-6.ensures
+returns-in-6 c = rw (typed c.before.before c.in-6.in-6-own.keys6) c.params-in-6.ensures
 
 pub returns-in-7 : goal.returns-in-7
 unfolding ioninit_of is_type round of_bits
-returns-in-7 c = rw (typed c.before.before c.in-7.KEY) c.params-in-7.ensures
+returns-in-7 c = rw (typed c.before.before c.in-7.in-7-own.keys7) c.params-in-7.ensures
 
 pub returns-in-8 : goal.returns-in-8
 unfolding ioninit_of is_type round of_bits
-returns-in-8 c = rw (typed c.before.before c.in-8.KEY) c.params-in-8.ensures
+returns-in-8 c = rw (typed c.before.before c.in-8.in-8-own.keys8) c.params-in-8.ensures
 
 pub returns-in-9 : goal.returns-in-9
 unfolding ioninit_of is_type round of_bits
-returns-in-9 c = rw (typed c.before.before c.in-9.KEY) c.params-in-9.ensures
+returns-in-9 c = rw (typed c.before.before c.in-9.in-9-own.keys9) c.params-in-9.ensures
 
 pub returns-in-10 : goal.returns-in-10
 unfolding ioninit_of is_type round of_bits
-returns-in-10 c = rw (typed c.before.before c.in-10.KEY) c.params-in-10.ensures
+returns-in-10 c = rw (typed c.before.before c.in-10.in-10-own.keys10) c.params-in-10.ensures
