@@ -13,4 +13,4 @@ returns-then-function-eq2 c = simp (eq-eqb _ 2 c.if-function-eq2.true) (c.twos_c
 
 pub returns-else-function-eq2 : goal.returns-else-function-eq2
 unfolding answer
-returns-else-function-eq2 c = simp (ne_eqb _ 2 c.if-function-eq2.false) (c.bits.ensures ∙ ap (to_bits binary32) c.before.value_of_lem.ensures)
+returns-else-function-eq2 c = simp (ne_eqb _ 2 c.if-function-eq2.false) (c.bits.ensures ∙ ap (to_bits binary32) c.value_of.ensures)

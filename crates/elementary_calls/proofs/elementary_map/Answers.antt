@@ -1,6 +1,6 @@
 use mathlib.Core.Path.{◌≡◌, refl, sym, ap, ◌∙◌}
 use mathlib.Core.Logic.{◌≢◌}
-use mathlib.Core.List.{List, ◌∷◌}
+use mathlib.Core.List.{[], List, ◌∷◌}
 use Prim.Native.Nat.{ℕ, zero, suc, ◌-◌, ◌<◌}
 use native.Mathlib.Omega.{arith}
 use native.Mathlib.Nat.{le_of_suc-le-suc}
@@ -28,7 +28,7 @@ filled f xs out e g = ext_get_or 0 out (answers f xs) (e ∙ sym (answers_length
 
 pub returns-then-xs-out : goal.returns-then-xs-out
 unfolding map_number mapped
-returns-then-xs-out c = let e = ne_eqb _ _ c.if-xs-out.true in (simp e, simp e)
+returns-then-xs-out c = let e = ne_eqb _ _ c.if-xs-out.true in record { value = simp e; out_after = simp e }
 
 pub loop-i-init : goal.loop-i-init
 loop-i-init c = (omega arith, sym c.if-xs-out.false, λ k h. omega arith)
@@ -47,7 +47,7 @@ returns c =
     let l = c.loop-i in
     let a = c.args in
     let e = eq-eqb (length a.xs.now) (length a.out.now) c.if-xs-out.false in
-    (simp e, simp e (filled a.function a.xs.now l.out l.invariant.1 (λ k h. l.invariant.2 k (omega arith))))
+    record { value = simp e; out_after = simp e (filled a.function a.xs.now l.out l.invariant.1 (λ k h. l.invariant.2 k (omega arith))) }
 
 pub bounds-xs-i : goal.bounds-xs-i
 bounds-xs-i c = omega arith

@@ -6,7 +6,9 @@ pub float_to_float-y : goal.float_to_float-y
 float_to_float-y c = widens _ c.row_known-1.given c.requires.x_value
 
 pub truncating_f64_to_u64-halves-requires : goal.truncating_f64_to_u64-halves-requires
-truncating_f64_to_u64-halves-requires c = (counted c.args.x c.row_known-1.given c.requires.x_value c.requires.binary32_value).in_u64
+truncating_f64_to_u64-halves-requires c =
+    let bounds = (counted c.args.x c.row_known-1.given c.requires.x_value c.requires.binary32_value).in_u64 in
+    record { lower_bound = bounds.0; upper_bound = bounds.1 }
 
 pub overflow_add-result : goal.overflow_add-result
 overflow_add-result c = let k = (counted c.args.x c.row_known-1.given c.requires.x_value c.requires.binary32_value) in omega (arith, k.small, c.truncating_f64_to_u64-halves.ensures)
