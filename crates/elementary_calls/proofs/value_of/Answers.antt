@@ -5,7 +5,7 @@ use Rattle.elementary_calls.proofs.value_of.Goals as goal
 -- any other number is the root's
 pub returns-in_default : goal.returns-in_default
 unfolding value
-returns-in_default c = let r = c.in_default.is in simp (ne_eqb _ 0 r.0.0.0.0.0.0.0.0.0.0.0.0.1, ne_eqb _ 1 r.0.0.0.0.0.0.0.0.0.0.0.1, ne_eqb _ 3 r.0.0.0.0.0.0.0.0.0.0.1, ne_eqb _ 4 r.0.0.0.0.0.0.0.0.0.1, ne_eqb _ 5 r.0.0.0.0.0.0.0.0.1, ne_eqb _ 6 r.0.0.0.0.0.0.0.1, ne_eqb _ 7 r.0.0.0.0.0.0.1, ne_eqb _ 8 r.0.0.0.0.0.1, ne_eqb _ 9 r.0.0.0.0.1, ne_eqb _ 10 r.0.0.0.1, ne_eqb _ 11 r.0.0.1, ne_eqb _ 12 r.0.1, ne_eqb _ 13 r.1) c.sqrt.ensures
+returns-in_default c = let r = c.in_default.in_default-own.rest in simp (ne_eqb _ 0 r.0.0.0.0.0.0.0.0.0.0.0.0.1, ne_eqb _ 1 r.0.0.0.0.0.0.0.0.0.0.0.1, ne_eqb _ 3 r.0.0.0.0.0.0.0.0.0.0.1, ne_eqb _ 4 r.0.0.0.0.0.0.0.0.0.1, ne_eqb _ 5 r.0.0.0.0.0.0.0.0.1, ne_eqb _ 6 r.0.0.0.0.0.0.0.1, ne_eqb _ 7 r.0.0.0.0.0.0.1, ne_eqb _ 8 r.0.0.0.0.0.1, ne_eqb _ 9 r.0.0.0.0.1, ne_eqb _ 10 r.0.0.0.1, ne_eqb _ 11 r.0.0.1, ne_eqb _ 12 r.0.1, ne_eqb _ 13 r.1) c.sqrt.ensures
 
 pub returns-in-0 : goal.returns-in-0
 returns-in-0 c = unfold value in rw c.in-0.is c.abs.ensures

@@ -4,4 +4,4 @@ abbrev pub invariant-loop-bound : goal.invariant-loop-bound
 invariant-loop-bound l = Unit
 
 abbrev pub decreases-loop-bound : goal.decreases-loop-bound
-decreases-loop-bound l = bound
+decreases-loop-bound l = l.bound

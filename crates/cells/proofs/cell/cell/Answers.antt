@@ -31,4 +31,4 @@ no_curtain P.Other t row azimuth delta e = refl
 
 pub returns-in_default : goal.returns-in_default
 unfolding cell_of
-returns-in_default c = let s = c.args in c.power_cell.ensures ∙ no_curtain s.row.pattern c.in_default.is _ _ s.delta _
+returns-in_default c = let s = c.args in c.power_cell.ensures ∙ no_curtain s.row.pattern c.in_default.in_default-own.keys2 _ _ s.delta _

@@ -1,18 +1,9 @@
 use mathlib.Core.Path.{sym}
-use Prim.Native.Nat.{◌<◌}
 use native.Mathlib.Omega.{arith}
 use lib.Seq.{length-take-le}
 use Rattle.field_reading.proofs.Malformed.{decimal_reading}
 use Rattle.field_reading.proofs.Parts.{too_short, no_front, no_back, no_point, value, a_below, b_below}
 use Rattle.field_reading.proofs.reading.read_decimal.Goals as goal
-use Rattle.field_reading.proofs.reading.read_decimal.Goals.{In-Read-digits-2}
-
--- both parts are below 10000
-below : (c : In-Read-digits-2) → (c.in-Read.a < 10000) × (c.in-Read-digits.b < 10000)
-below c = (
-  a_below c.args.s.now _ _ _ _ c.signed_digits.ensures c.in-Read.is c.digits.ensures,
-  b_below c.args.s.now _ _ _ _ c.signed_digits.ensures c.in-Read.is c.digits.ensures _ _ c.in-Read-digits.is,
-)
 
 pub returns-then-s-lt6 : goal.returns-then-s-lt6
 returns-then-s-lt6 c = decimal_reading _ _ (too_short _ c.if-s-lt6.true)
@@ -30,13 +21,22 @@ pub returns-then-s-point-ne46 : goal.returns-then-s-point-ne46
 returns-then-s-point-ne46 c = decimal_reading _ _ (no_point _ _ _ _ _ c.signed_digits.ensures c.in-Read.is c.digits.ensures _ _ c.in-Read-digits.is c.if-s-point-ne46.true)
 
 pub overflow_mul-a : goal.overflow_mul-a
-overflow_mul-a c = let h = below c.before.before.before in omega arith
+overflow_mul-a c = 
+    let a = a_below c.args.s.now _ _ _ _ c.signed_digits.ensures c.in-Read.is c.digits.ensures in
+    let b = b_below c.args.s.now _ _ _ _ c.signed_digits.ensures c.in-Read.is c.digits.ensures _ _ c.in-Read-digits.is in
+    omega arith
 
 pub overflow_add-a : goal.overflow_add-a
-overflow_add-a c = let h = below c.before.before.before in omega arith
+overflow_add-a c = 
+    let a = a_below c.args.s.now _ _ _ _ c.signed_digits.ensures c.in-Read.is c.digits.ensures in
+    let b = b_below c.args.s.now _ _ _ _ c.signed_digits.ensures c.in-Read.is c.digits.ensures _ _ c.in-Read-digits.is in
+    omega arith
 
 pub ten_thousandths-requires : goal.ten_thousandths-requires
-ten_thousandths-requires c = let h = below c.before.before.before in omega arith
+ten_thousandths-requires c = 
+    let a = a_below c.args.s.now _ _ _ _ c.signed_digits.ensures c.in-Read.is c.digits.ensures in
+    let b = b_below c.args.s.now _ _ _ _ c.signed_digits.ensures c.in-Read.is c.digits.ensures _ _ c.in-Read-digits.is in
+    omega arith
 
 pub returns : goal.returns
 returns c = decimal_reading _ _ (value _ _ _ _ _ c.signed_digits.ensures c.in-Read.is c.digits.ensures _ _ c.in-Read-digits.is _ c.if-s-point-ne46.false c.ten_thousandths.ensures)

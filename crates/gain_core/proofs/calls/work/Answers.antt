@@ -62,13 +62,13 @@ unfolding round of_bits
 returns-then-without_row c = all_answers _ _ _ _ _ _ (low_only _ _ _ _ _ _ _ refl refl (sym (without c.before.before.before) ∙ c.if-without_row.true) _ (rw (to_z-of_z w32 c.args.antenna.kop (search rules)) at c.ground_gain-low.ensures))
 
 pub returns-in_default : goal.returns-in_default
-returns-in_default c = all_answers _ _ _ _ _ _ (no_row _ _ _ _ _ _ _ refl refl (sym (without c.before.before.before.before) ∙ c.if-without_row.false) (sym c.row_of.ensures.0 ∙ c.in_default.is))
+returns-in_default c = all_answers _ _ _ _ _ _ (no_row _ _ _ _ _ _ _ refl refl (sym (without c.before.before.before) ∙ c.if-without_row.false) (sym c.row_of.ensures.0 ∙ c.in_default.is))
 
 pub returns-then-delta : goal.returns-then-delta
 unfolding round of_bits
 returns-then-delta c =
     let low = c.if-delta.true in
-    all_answers _ _ _ _ _ _ (at_zenith _ _ _ _ _ _ _ (sym c.row_of.ensures.0 ∙ c.in-Settled.is) _ low refl (rw low at (sym (without c.before.before.before.before.before.before.before.before.before.before) ∙ c.if-without_row.false)) _ _ _ (rw (to_z-of_z w32 c.args.antenna.kop (search rules)) at c.ground_gain-low-then-delta.ensures) c.zenith_gain.ensures c.blend.ensures)
+    all_answers _ _ _ _ _ _ (at_zenith _ _ _ _ _ _ _ (sym c.row_of.ensures.0 ∙ c.in-Settled.is) _ low refl (rw low at (sym (without c.before.before.before.before.before.before.before.before) ∙ c.if-without_row.false)) _ _ _ (rw (to_z-of_z w32 c.args.antenna.kop (search rules)) at c.ground_gain-low-then-delta.ensures) c.zenith_gain.ensures c.blend.ensures)
 
 pub returns : goal.returns
 unfolding round of_bits

@@ -21,7 +21,7 @@ unfolding gain_of
 returns-then-refusal-ne0 c = answers _ _ _ (rw (← c.call_refusal-refusal.ensures, ne_eqb _ 0 c.if-refusal-ne0.true))
 
 pub returns-in_default : goal.returns-in_default
-returns-in_default c = answers _ _ _ (rw (worked c.before.before, c.in_default.is))
+returns-in_default c = answers _ _ _ (rw (worked c.before, c.in_default.is))
 
 pub returns : goal.returns
-returns c = answers _ _ _ (rw (worked c.before.before.before, c.in-Settled.is))
+returns c = answers _ _ _ (rw (worked c.before, c.in-Settled.is))

@@ -32,7 +32,7 @@ returns-then-mhz_outside c =
     rw (← typed c.before.before.before.before, c.if-not-is_ioncap_type.false, c.if-outside.false, c.if-not-asig.false, c.if-mhz_outside.true)
 
 -- past the first four refusals
-fifth : (c : After-too_many_bays) → let a = c.args in input_refusal a.kop a.outside a.asig a.mhz-outside a.bays ≡ cond c.too_many_bays.result 5 0
+fifth : (c : After-too_many_bays) → let a = c.args in input_refusal a.kop a.outside a.asig a.mhz_outside a.bays ≡ cond c.too_many_bays.result 5 0
 unfolding input_refusal first_refusal round of_bits
 fifth c =
     let a = c.args in

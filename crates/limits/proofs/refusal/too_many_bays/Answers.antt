@@ -7,8 +7,8 @@ use Rattle.limits.proofs.refusal.too_many_bays.Goals as goal
 
 pub returns-in-6 : goal.returns-in-6
 unfolding too_many_bays is_type round of_bits
-returns-in-6 c = rw (is_type_lem c.args.kop (search rules) c.in-6.is)
+returns-in-6 c = rw (is_type_lem c.args.kop (search rules) c.in-6.in-6-own.keys1)
 
 pub returns-in_default : goal.returns-in_default
 unfolding too_many_bays
-returns-in_default c = rw (no_type _ 6 c.in_default.is.1)
+returns-in_default c = rw (no_type _ 6 c.in_default.in_default-own.rest.1)

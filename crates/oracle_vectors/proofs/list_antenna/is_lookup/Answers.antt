@@ -4,4 +4,4 @@ use lib.Seq.{length-take-le}
 use Rattle.oracle_vectors.proofs.list_antenna.is_lookup.Goals as goal
 
 pub slice_bounds-lookup-end : goal.slice_bounds-lookup-end
-slice_bounds-lookup-end c = sym (length-take-le _ _ (omega (arith, c.before.table_length_lem.ensures)))
+slice_bounds-lookup-end c = sym (length-take-le _ _ (omega (arith, c.table_length-n.ensures)))

@@ -29,7 +29,7 @@ module _ (c : After-height_in_waves-above) where
 
 pub returns-in_default : goal.returns-in_default
 unfolding pattern_of
-returns-in_default c = let r = c.in_default.is in
+returns-in_default c = let r = c.in_default.in_default-own.rest in
     pattern_answers c.args.antenna c.args.wave _ (rw (
       no_type _ 1 r.0.0.0.0.0.0.0.0.0.1,
       no_type _ 10 r.0.0.0.0.0.0.0.0.1,
@@ -45,40 +45,40 @@ returns-in_default c = let r = c.in_default.is in
 
 pub returns-in-1 : goal.returns-in-1
 unfolding is_type
-returns-in-1 c = answered c.before.before.before _ c.in-1.is (rw (← c.legs_of.ensures) c.settled.ensures)
+returns-in-1 c = answered c.before.before.before _ c.in-1.in-1-own.keys1 (rw (← c.legs_of.ensures) c.settled.ensures)
 
 pub returns-in-10 : goal.returns-in-10
 unfolding is_type
-returns-in-10 c = answered c.before.before.before.before _ c.in-10.is (rw (← c.legs_of-in-10.ensures, ← c.offset_of.ensures) c.settled-in-10.ensures)
+returns-in-10 c = answered c.before.before.before.before _ c.in-10.in-10-own.keys2 (rw (← c.legs_of-in-10.ensures, ← c.offset_of.ensures) c.settled-in-10.ensures)
 
 pub returns-in-8 : goal.returns-in-8
 unfolding is_type
-returns-in-8 c = answered c.before.before _ c.in-8.is c.inverted_l_of.ensures
+returns-in-8 c = answered c.before.before _ c.in-8.in-8-own.keys3 c.inverted_l_of.ensures
 
 pub returns-in-7 : goal.returns-in-7
 unfolding is_type
-returns-in-7 c = answered c.before.before.before _ c.in-7.is (rw (← c.vee_slope.ensures) c.settled-in-7.ensures)
+returns-in-7 c = answered c.before.before.before _ c.in-7.in-7-own.keys4 (rw (← c.vee_slope.ensures) c.settled-in-7.ensures)
 
 pub returns-in-9 : goal.returns-in-9
 unfolding is_type
-returns-in-9 c = answered c.before.before.before _ c.in-9.is (rw (← c.rhombic_slope.ensures) c.settled-in-9.ensures)
+returns-in-9 c = answered c.before.before.before _ c.in-9.in-9-own.keys5 (rw (← c.rhombic_slope.ensures) c.settled-in-9.ensures)
 
 pub returns-in-6 : goal.returns-in-6
 unfolding is_type
-returns-in-6 c = answered c.before.before.before.before _ c.in-6.is (rw (← c.curtain_card.ensures, ← c.curtain_row.ensures) c.settled-in-6.ensures)
+returns-in-6 c = answered c.before.before.before.before _ c.in-6.in-6-own.keys6 (rw (← c.curtain_card.ensures, ← c.curtain_row.ensures) c.settled-in-6.ensures)
 
 pub returns-in-3 : goal.returns-in-3
 unfolding is_type
-returns-in-3 c = answered c.before.before _ c.in-3.is c.dipole_of.ensures
+returns-in-3 c = answered c.before.before _ c.in-3.in-3-own.keys7 c.dipole_of.ensures
 
 pub returns-in-4 : goal.returns-in-4
 unfolding is_type
-returns-in-4 c = answered c.before.before _ c.in-4.is c.dipole_of-in-4.ensures
+returns-in-4 c = answered c.before.before _ c.in-4.in-4-own.keys8 c.dipole_of-in-4.ensures
 
 pub returns-in-2 : goal.returns-in-2
 unfolding is_type
-returns-in-2 c = answered c.before.before _ c.in-2.is c.monopole_of.ensures
+returns-in-2 c = answered c.before.before _ c.in-2.in-2-own.keys9 c.monopole_of.ensures
 
 pub returns-in-5 : goal.returns-in-5
 unfolding is_type
-returns-in-5 c = answered c.before.before _ c.in-5.is c.monopole_of-in-5.ensures
+returns-in-5 c = answered c.before.before _ c.in-5.in-5-own.keys10 c.monopole_of-in-5.ensures

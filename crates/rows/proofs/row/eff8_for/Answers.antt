@@ -28,4 +28,4 @@ other P.Other t = refl
 
 pub returns-in_default : goal.returns-in_default
 unfolding round of_bits
-returns-in_default c = other c.args.pattern c.in_default.is
+returns-in_default c = other c.args.pattern c.in_default.in_default-own.keys2
