@@ -54,8 +54,8 @@ fn bytes_refusal(table: &[u8], fmc: f32, delta: f32) -> u32
 
 pub fn gain_lookup_in_bytes(table: &[u8], fmc: f32, delta: f32) -> Lookup
     ensures value { result ≡ gain_lookup_of (table_of table.now) fmc delta }
-    ensures result_value { lookup_number result ≡ gain_lookup_number (table_of table.now) fmc delta }
-    ensures result_value_2 { lookup_values result ≡ gain_lookup_values (table_of table.now) fmc delta }
+    ensures number { lookup_number result ≡ gain_lookup_number (table_of table.now) fmc delta }
+    ensures values { lookup_values result ≡ gain_lookup_values (table_of table.now) fmc delta }
 {
     let refusal = bytes_refusal(table, fmc, delta);
     if refusal != 0 {

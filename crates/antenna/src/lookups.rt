@@ -17,8 +17,8 @@ pub enum Lookup {
 // At fmc MHz and an elevation of delta radians.
 pub fn gain_lookup(table: &[f32], fmc: f32, delta: f32) -> Lookup
     ensures value { result ≡ gain_lookup_of table.now fmc delta }
-    ensures result_value { lookup_number result ≡ gain_lookup_number table.now fmc delta }
-    ensures result_value_2 { lookup_values result ≡ gain_lookup_values table.now fmc delta }
+    ensures number { lookup_number result ≡ gain_lookup_number table.now fmc delta }
+    ensures values { lookup_values result ≡ gain_lookup_values table.now fmc delta }
 {
     let refusal = lookup_refusal(table, fmc, delta);
     if refusal != 0 {
@@ -39,8 +39,8 @@ pub fn card_lookup(
     delta: f32,
 ) -> Lookup
     ensures value { result ≡ card_lookup_of first last verdict table.now fmc delta }
-    ensures result_value { lookup_number result ≡ card_lookup_number first last verdict table.now fmc delta }
-    ensures result_value_2 { lookup_values result ≡ card_lookup_values first last verdict table.now fmc delta }
+    ensures number { lookup_number result ≡ card_lookup_number first last verdict table.now fmc delta }
+    ensures values { lookup_values result ≡ card_lookup_values first last verdict table.now fmc delta }
 {
     let refusal = card_refusal(first, last, verdict, table, fmc, delta);
     if refusal != 0 {

@@ -60,8 +60,8 @@ module _ (f : Fields) (p : fields_refusal f ≡ 0) where
   carries : (is_type f.kop 2 || is_type f.kop 5) ≡ carries_height (nat_abs f.kop)
   carries = ap₂ ◌||◌ (kind 2) (kind 5)
 
-  looks : Cell.blendsWithZenith f.kop ≡ has_second_call (nat_abs f.kop)
-  unfolding Cell.blendsWithZenith
+  looks : Cell.blends_with_zenith f.kop ≡ has_second_call (nat_abs f.kop)
+  unfolding Cell.blends_with_zenith
   looks = ap₂ ◌||◌ (kind 3) (kind 4)
 
 -- ---- the height that a row leaves

@@ -41,18 +41,18 @@ demand3 = D.demand3 the_antenna the_laws count_limit
 pub demand3_of_calls : (entries : Entries) (outcomes : List Outcome) (k : ℕ) (outcomes_without : List Outcome) → length entries ≤ count_limit
     → CallsDone the_antenna count_limit fresh entries outcomes → CallsDone the_antenna count_limit fresh (without k entries) outcomes_without
     → Demand3 the_antenna entries outcomes k outcomes_without
-demand3_of_calls = C.demand3-of-calls the_antenna the_laws count_limit
+demand3_of_calls = C.demand3_of_calls the_antenna the_laws count_limit
 
 -- ---- its sentences one by one. That each number of a table is a gain call's: crate deck_gains
 -- "every other card has the same verdict": each has the first refusal of its own tests, whatever came before it
 pub own_verdicts : (entries : Entries) → length entries ≤ count_limit
     → map (λ (o : Outcome). o.verdict) (outcomes_of entries) ≡ map (λ (e : Entry the_antenna). first_refusal (own_tests the_antenna e (num 0 1))) entries
-own_verdicts = Q.own-verdicts the_antenna the_laws count_limit
+own_verdicts = Q.own_verdicts the_antenna the_laws count_limit
 
 -- "and the same table in both runs": each whole table, where the struck card is refused
 pub refused_removed : (entries : Entries) (k : ℕ) → length entries ≤ count_limit
     → (outcome_at (outcomes_of entries) k).verdict ≢ 0 → without k (outcomes_of entries) ≡ outcomes_of (without k entries)
-refused_removed = Q.refused-removed the_antenna the_laws count_limit
+refused_removed = Q.refused_removed the_antenna the_laws count_limit
 
 -- "One cell alone may differ": at most one of one entry
 pub one_cell : (entries : Entries) (outcomes : List Outcome) (k j j' i i' : ℕ)
@@ -63,30 +63,30 @@ one_cell = Q.one_cell the_antenna the_laws count_limit
 pub other_type_next : (entries : Entries) (k j : ℕ) (fields : Fields) → length entries ≤ count_limit
     → NextAccepted the_antenna (without k entries) (outcomes_of (without k entries)) k j fields → T (not (carries_height (the_antenna.type_of fields)))
     → without k (outcomes_of entries) ≡ outcomes_of (without k entries)
-other_type_next = Q.other-type-next the_antenna the_laws count_limit
+other_type_next = Q.other_type_next the_antenna the_laws count_limit
 
 -- "the height left by the last cell": what an accepted card's 90-degree call at its last MHz leaves
 pub left_by_last_cell : (fields : Fields) (height : Float) → Passes the_antenna fields height
     → (call_at the_antenna fields (the_antenna.last fields) (carried_at_row the_antenna fields height (the_antenna.last fields)) 90).height
     ≡ height_left the_antenna fields (the_antenna.last fields)
-left_by_last_cell = Q.left-by-last-cell the_antenna the_laws count_limit
+left_by_last_cell = Q.left_by_last_cell the_antenna the_laws count_limit
 
 -- "of an accepted card before it": after types 2 and 5 their height in wavelengths at their last MHz
 pub own_after_2_or_5 : (entries : Entries) (i j : ℕ) (fields : Fields)
     → Q.LastAccepted the_antenna the_laws count_limit entries (outcomes_of entries) i j fields → T (carries_height (the_antenna.type_of fields))
     → carried the_antenna (num 0 1) entries (outcomes_of entries) j ≡ the_antenna.wavelengths fields (the_antenna.last fields)
-own_after_2_or_5 = Q.own-after-2-or-5 the_antenna the_laws count_limit
+own_after_2_or_5 = Q.own_after_2_or_5 the_antenna the_laws count_limit
 
 -- "zero if none"
 pub zero_if_none : (entries : Entries) (outcomes : List Outcome) (j : ℕ) → ((n : ℕ) → n < j → (outcome_at outcomes n).verdict ≢ 0)
     → carried the_antenna (num 0 1) entries outcomes j ≡ num 0 1
-zero_if_none = Q.zero-if-none the_antenna the_laws count_limit
+zero_if_none = Q.zero_if_none the_antenna the_laws count_limit
 
 -- "1 after another type"
 pub one_after_other : (entries : Entries) (i j : ℕ) (fields : Fields)
     → Q.LastAccepted the_antenna the_laws count_limit entries (outcomes_of entries) i j fields → T (not (carries_height (the_antenna.type_of fields)))
     → carried the_antenna (num 0 1) entries (outcomes_of entries) j ≡ num 1 1
-one_after_other = Q.one-after-other the_antenna the_laws count_limit
+one_after_other = Q.one_after_other the_antenna the_laws count_limit
 
 -- ---- what stands beside it
 -- the deck's counts are those of the outcomes
@@ -96,4 +96,4 @@ counts = Q.counts the_antenna the_laws count_limit
 
 pub never_9_or_10 : (entries : Entries) → length entries ≤ count_limit → (j : ℕ)
     → ((outcome_at (outcomes_of entries) j).verdict ≢ 9) × ((outcome_at (outcomes_of entries) j).verdict ≢ 10)
-never_9_or_10 = Q.never-9-or-10 the_antenna the_laws count_limit
+never_9_or_10 = Q.never_9_or_10 the_antenna the_laws count_limit

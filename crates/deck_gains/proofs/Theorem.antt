@@ -142,7 +142,7 @@ module _ (f : Fields) (h : Float) (p : Passes the_antenna f h) (fin : T (finite 
       let rows : suc m - the_antenna.first f ≡ suc n = omega arith in
       let row : the_antenna.first f + n ≡ m = omega arith in
       ap (carried_after_rows the_antenna f h) rows
-      ∙ ap (Antenna.heightLeft the_antenna f) row
+      ∙ ap (Antenna.height_left the_antenna f) row
       ∙ sym (the_laws.leaves f m 89 height (fills m lo hi) (omega arith) (accepted_above m 89 lo hi (omega arith) height))
       ∙ (last_call m lo hi height fin').left
       ∙ sym (ap (λ (g : Gain). height_left g height) (is_work f m 90 (fills m lo hi) (omega arith) height fin'))

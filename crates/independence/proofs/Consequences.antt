@@ -214,7 +214,7 @@ module _ (A : Antenna) (L : Laws A) (limit : ℕ) where
   pub one_cell : (es : List (Entry A)) (os : List Outcome) (k j j' i i' : ℕ) → MayDiffer A es os k j i → MayDiffer A es os k j' i' → (j ≡ j') × (i ≡ i')
   one_cell es os k j j' i i' x x' = (
     next_place es os k j j' x.the_card x'.the_card x.next x'.next,
-    x.on_ground ∙ ap (λ (c : A.Card). gain_at (A.first c) 0) (next_card es os k j j' x.the_card x'.the_card x.next x'.next) ∙ sym x'.ground,
+    x.on_ground ∙ ap (λ (c : A.Card). gain_at (A.first c) 0) (next_card es os k j j' x.the_card x'.the_card x.next x'.next) ∙ sym x'.on_ground,
   )
 
   pub other_type_next : (es : List (Entry A)) (k j : ℕ) (c : A.Card) → length es ≤ limit → NextAccepted A (without k es) (run A limit fresh (without k es)) k j c

@@ -172,7 +172,7 @@ module _ (A : Antenna) (L : Laws A) (limit : ℕ) where
   unfolding table_by
   tables_line (card c) t d h' zero e = (
     card_table_length c d.height ∙ sym (card_table_length c h'),
-    λ i other. card_cells c d.height h' (accepted_passes d c t e) i (λ q. other (record { the_card = c; is_card = refl; verdict = refl; type = q.0; ground = q.1 })),
+    λ i other. card_cells c d.height h' (accepted_passes d c t e) i (λ q. other (record { the_card = c; is_card = refl; verdict = refl; type = q.0; on_ground = q.1 })),
   )
   tables_line malformed t d h' zero e = absurd (malformed_refused d t e)
   tables_line l t d h' (suc v) e = (refl, λ i other. refl)

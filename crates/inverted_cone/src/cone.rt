@@ -103,8 +103,8 @@ fn cone_value(freq: f32, elev_deg: f32) -> f32
 // At freq MHz and an elevation of elev_deg degrees.
 pub fn invcon(freq: f32, elev_deg: f32) -> ConeGain
     ensures value { result ≡ invcon_of freq elev_deg }
-    ensures result_value { cone_gain_number result ≡ invcon_number freq elev_deg }
-    ensures result_value_2 { cone_gain_value result ≡ invcon_value freq elev_deg }
+    ensures number { cone_gain_number result ≡ invcon_number freq elev_deg }
+    ensures gain { cone_gain_value result ≡ invcon_value freq elev_deg }
 {
     let numbers = [freq, elev_deg];
     if limits::any_outside(&numbers) {

@@ -6,7 +6,7 @@ use lib.Ieee.{Float, nan}
 use Rattle.table.proofs.fill.Given as goal
 
 -- the first i numbers are x
-pub Filled : Float → List Float → ℕ → Type 0
+unfoldable pub Filled : Float → List Float → ℕ → Type 0
 Filled x t i = (k : ℕ) → k < i → get_or t k nan ≡ x
 
 abbrev pub invariant-loop-i : goal.invariant-loop-i

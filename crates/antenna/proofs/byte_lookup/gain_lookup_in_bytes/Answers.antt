@@ -9,16 +9,26 @@ pub returns-then-refusal-ne0 : goal.returns-then-refusal-ne0
 unfolding lookup_number lookup_values gain_lookup_of gain_lookup_values
 returns-then-refusal-ne0 c =
     let e = c.bytes_refusal-refusal.ensures in
-    (rw (← e, ne_eqb _ 0 c.if-refusal-ne0.true), (e, rw (← e, ne_eqb _ 0 c.if-refusal-ne0.true)))
+    record {
+      value = rw (← e, ne_eqb _ 0 c.if-refusal-ne0.true);
+      number = e;
+      values = rw (← e, ne_eqb _ 0 c.if-refusal-ne0.true);
+    }
 
 pub locate-at-requires : goal.locate-at-requires
 locate-at-requires c = let a = bytes_accepted _ _ _ (sym c.bytes_refusal-refusal.ensures ∙ c.if-refusal-ne0.false) in (a.1, a.2)
 
 pub byte_row_at-low-requires : goal.byte_row_at-low-requires
-byte_row_at-low-requires c = ((bytes_accepted _ _ _ (sym c.bytes_refusal-refusal.ensures ∙ c.if-refusal-ne0.false)).0, rw c.locate-at.ensures (low_in _ _))
+byte_row_at-low-requires c = record {
+  table_len = (bytes_accepted _ _ _ (sym c.bytes_refusal-refusal.ensures ∙ c.if-refusal-ne0.false)).0;
+  in_table = rw c.locate-at.ensures (low_in _ _);
+}
 
 pub byte_row_at-high-requires : goal.byte_row_at-high-requires
-byte_row_at-high-requires c = ((bytes_accepted _ _ _ (sym c.bytes_refusal-refusal.ensures ∙ c.if-refusal-ne0.false)).0, rw c.locate-at.ensures (high_in _ _))
+byte_row_at-high-requires c = record {
+  table_len = (bytes_accepted _ _ _ (sym c.bytes_refusal-refusal.ensures ∙ c.if-refusal-ne0.false)).0;
+  in_table = rw c.locate-at.ensures (high_in _ _);
+}
 
 pub returns : goal.returns
 unfolding lookup_number lookup_values gain_lookup_of gain_lookup_values
@@ -29,7 +39,9 @@ returns c =
     let at = c.locate-at.ensures in
     let low = c.byte_row_at-low.ensures in
     let high = c.byte_row_at-high.ensures in
-    let found = c.blend.ensures in (
-      rw (← e, eq-eqb _ 0 z, table_of_lem _ size, ← at, ← low, ← high, ← found),
-      (sym z ∙ e, rw (← e, eq-eqb _ 0 z, table_of_lem _ size, ← at, ← low, ← high, ← found)),
-    )
+    let found = c.blend.ensures in
+    record {
+      value = rw (← e, eq-eqb _ 0 z, table_of_lem _ size, ← at, ← low, ← high, ← found);
+      number = sym z ∙ e;
+      values = rw (← e, eq-eqb _ 0 z, table_of_lem _ size, ← at, ← low, ← high, ← found);
+    }

@@ -26,7 +26,11 @@ number c = let r = signed c.before.before in rw (r.0, r.1) at c.card_refusal-ref
 
 pub returns-then-refusal-ne0 : goal.returns-then-refusal-ne0
 unfolding lookup_number lookup_values card_lookup_of card_lookup_values
-returns-then-refusal-ne0 c = let e = number c.before in (rw (← e, ne_eqb _ 0 c.if-refusal-ne0.true), (e, rw (← e, ne_eqb _ 0 c.if-refusal-ne0.true)))
+returns-then-refusal-ne0 c = let e = number c.before in record {
+      value = rw (← e, ne_eqb _ 0 c.if-refusal-ne0.true);
+      number = e;
+      values = rw (← e, ne_eqb _ 0 c.if-refusal-ne0.true);
+    }
 
 pub returns-then-verdict-ne0 : goal.returns-then-verdict-ne0
 unfolding lookup_number lookup_values card_lookup_of card_lookup_values round of_bits
@@ -34,7 +38,11 @@ returns-then-verdict-ne0 c =
     let e = number c.before.before in
     let z = c.if-refusal-ne0.false in
     let v = ne_eqb _ 0 c.if-verdict-ne0.true in
-    (rw (← e, eq-eqb _ 0 z, v), (sym z ∙ e, rw (← e, eq-eqb _ 0 z, v)))
+    record {
+      value = rw (← e, eq-eqb _ 0 z, v);
+      number = sym z ∙ e;
+      values = rw (← e, eq-eqb _ 0 z, v);
+    }
 
 pub locate-at-requires : goal.locate-at-requires
 locate-at-requires c = let a = card_accepted _ _ _ _ _ _ (sym c.card_refusal-refusal.ensures ∙ c.if-refusal-ne0.false) in (a.1, a.2)
@@ -58,7 +66,11 @@ from_filled_rows-requires c =
     let s = signed c.before.before.before.before.before in
     let size = (card_accepted _ _ _ _ _ _ (sym c.card_refusal-refusal.ensures ∙ c.if-refusal-ne0.false)).0 in
     let at = c.locate-at.ensures in
-    (size, (rw (s.0, s.1, at) (ends_in _ _ _ _ (range c)), (rw at (low_in _ _), rw at (high_in _ _))))
+    record {
+      table_len = size;
+      in_table = rw (s.0, s.1, at) (ends_in _ _ _ _ (range c));
+      in_table_2 = (rw at (low_in _ _), rw at (high_in _ _));
+    }
 
 pub returns : goal.returns
 unfolding lookup_number lookup_values card_lookup_of card_lookup_values
@@ -69,4 +81,8 @@ returns c =
     let v = eq-eqb _ 0 c.if-verdict-ne0.false in
     let at = c.locate-at.ensures in
     let found = rw (s.0, s.1) at c.from_filled_rows.ensures in
-    (rw (← e, eq-eqb _ 0 z, v, ← at, ← found), (sym z ∙ e, rw (← e, eq-eqb _ 0 z, v, ← at) found))
+    record {
+      value = rw (← e, eq-eqb _ 0 z, v, ← at, ← found);
+      number = sym z ∙ e;
+      values = rw (← e, eq-eqb _ 0 z, v, ← at) found;
+    }

@@ -5,14 +5,20 @@ use Rattle.capi.proofs.entries.ioncap_cone.Goals as goal
 
 pub returns-then-answer-ne-ANSWER_LENGTH : goal.returns-then-answer-ne-ANSWER_LENGTH
 unfolding cone_gain_number cone_gain_value round of_bits
-returns-then-answer-ne-ANSWER_LENGTH c = cone_unwritten _ _ _ c.if-answer-ne-ANSWER_LENGTH.true
+returns-then-answer-ne-ANSWER_LENGTH c =
+    let r = cone_unwritten _ _ _ c.if-answer-ne-ANSWER_LENGTH.true in
+    record { value = r.0; answer_after = r.1 }
 
 pub returns-in-Accepted : goal.returns-in-Accepted
 unfolding cone_gain_number cone_gain_value round of_bits
-returns-in-Accepted c = let case = c.in-Accepted.is in
-    cone_written _ _ _ c.if-answer-ne-ANSWER_LENGTH.false c.invcon.result c.invcon.ensures.1 _ _ (rw case) (rw case c.write_answer.ensures)
+returns-in-Accepted c =
+    let case = c.in-Accepted.is in
+    let r = cone_written _ _ _ c.if-answer-ne-ANSWER_LENGTH.false c.invcon.result c.invcon.ensures.number _ _ (rw case) (rw case c.write_answer.ensures) in
+    record { value = r.0; answer_after = r.1 }
 
 pub returns-in-Refused : goal.returns-in-Refused
 unfolding cone_gain_number cone_gain_value round of_bits
-returns-in-Refused c = let case = c.in-Refused.is in
-    cone_written _ _ _ c.if-answer-ne-ANSWER_LENGTH.false c.invcon.result c.invcon.ensures.1 _ _ (rw case) (rw case c.write_answer-in-Refused.ensures)
+returns-in-Refused c =
+    let case = c.in-Refused.is in
+    let r = cone_written _ _ _ c.if-answer-ne-ANSWER_LENGTH.false c.invcon.result c.invcon.ensures.number _ _ (rw case) (rw case c.write_answer-in-Refused.ensures) in
+    record { value = r.0; answer_after = r.1 }

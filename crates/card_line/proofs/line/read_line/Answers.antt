@@ -23,26 +23,22 @@ pub returns-in_default-read_integer-2 : goal.returns-in_default-read_integer-2
 returns-in_default-read_integer-2 c = no_last _ _ c.malformed-in_default-read_integer-2.ensures (sym c.read_integer-3.ensures.0 ∙ c.in_default-read_integer-2.is)
 
 pub returns-then-not-well_formed : goal.returns-then-not-well_formed
-returns-then-not-well_formed c = no_decimals _ _ c.malformed-then-not-well_formed.ensures _ _ c.read_decimals-well_formed.ensures (not-true _ c.if-not-well_formed.true)
+returns-then-not-well_formed c = no_decimals _ _ c.malformed-then-not-well_formed.ensures _ _ c.read_decimals-well_formed.ensures (c.if-not-well_formed.true)
 
 -- the three integers, where all was read
 abbrev bytes : Else-not-well_formed → List ℕ
-bytes c = c.before.before.before.before.before.before.before.before.before.before.before.before.before.before.before.before.before.before.before.before.args.s.now
-
-reads : (c : Else-not-well_formed) → (integer_at (bytes c) 0 ≡ Number c.in-Number.kop) × (integer_at (bytes c) 3 ≡ Number c.in-Number-read_integer.first) × (integer_at (bytes c) 6 ≡ Number c.in-Number-read_integer-2.last)
-reads c =
-    (sym c.read_integer.ensures.0 ∙ c.in-Number.is, sym c.read_integer-2.ensures.0 ∙ c.in-Number-read_integer.is, sym c.read_integer-3.ensures.0 ∙ c.in-Number-read_integer-2.is)
+bytes c = c.args.s.now
 
 pub returns : goal.returns
 returns c =
-    let r = reads c.before in
-    all_read _ _ _ _ _ _ _ c.if-s-ne-BYTES.false r.0 r.1 r.2 c.read_decimals-well_formed.ensures (not-false _ c.if-not-well_formed.false) c.card_fields.ensures
+    let r = ((sym c.read_integer.ensures.0 ∙ c.in-Number.is, sym c.read_integer-2.ensures.0 ∙ c.in-Number-read_integer.is, sym c.read_integer-3.ensures.0 ∙ c.in-Number-read_integer-2.is)) in
+    all_read _ _ _ _ _ _ _ c.if-s-ne-BYTES.false r.0 r.1 r.2 c.read_decimals-well_formed.ensures (c.if-not-well_formed.false) c.card_fields.ensures
 
 pub overflow_cast-kop : goal.overflow_cast-kop
-overflow_cast-kop c = i32_fits (bytes c) 0 _ (reads c).0
+overflow_cast-kop c = i32_fits (bytes c) 0 _ (((sym c.read_integer.ensures.0 ∙ c.in-Number.is, sym c.read_integer-2.ensures.0 ∙ c.in-Number-read_integer.is, sym c.read_integer-3.ensures.0 ∙ c.in-Number-read_integer-2.is))).0
 
 pub overflow_cast-first : goal.overflow_cast-first
-overflow_cast-first c = i32_fits (bytes c) 3 _ (reads c).1
+overflow_cast-first c = i32_fits (bytes c) 3 _ (((sym c.read_integer.ensures.0 ∙ c.in-Number.is, sym c.read_integer-2.ensures.0 ∙ c.in-Number-read_integer.is, sym c.read_integer-3.ensures.0 ∙ c.in-Number-read_integer-2.is))).1
 
 pub overflow_cast-last : goal.overflow_cast-last
-overflow_cast-last c = i32_fits (bytes c) 6 _ (reads c).2
+overflow_cast-last c = i32_fits (bytes c) 6 _ (((sym c.read_integer.ensures.0 ∙ c.in-Number.is, sym c.read_integer-2.ensures.0 ∙ c.in-Number-read_integer.is, sym c.read_integer-3.ensures.0 ∙ c.in-Number-read_integer-2.is))).2

@@ -22,44 +22,44 @@ returns-in_default c =
 
 pub returns-in-1 : goal.returns-in-1
 unfolding corners_at corners_in cone round of_bits of_int neg
-returns-in-1 c = rw c.in-1.OWN.keys1 c.corners_in.ensures
+returns-in-1 c = rw c.in-1.is c.corners_in.ensures
 
 pub returns-in-2 : goal.returns-in-2
 unfolding corners_at corners_in cone round of_bits of_int neg
-returns-in-2 c = rw c.in-2.OWN.keys2 c.corners_in-in-2.ensures
+returns-in-2 c = rw c.in-2.is c.corners_in-in-2.ensures
 
 pub returns-in-3 : goal.returns-in-3
 unfolding corners_at corners_in cone round of_bits of_int neg
-returns-in-3 c = rw c.in-3.OWN.keys3 c.corners_in-in-3.ensures
+returns-in-3 c = rw c.in-3.is c.corners_in-in-3.ensures
 
 pub returns-in-4 : goal.returns-in-4
 unfolding corners_at corners_in cone round of_bits of_int neg
-returns-in-4 c = rw c.in-4.OWN.keys4 c.corners_in-in-4.ensures
+returns-in-4 c = rw c.in-4.is c.corners_in-in-4.ensures
 
 pub returns-in-5 : goal.returns-in-5
 unfolding corners_at corners_in cone round of_bits of_int neg
-returns-in-5 c = rw c.in-5.OWN.keys5 c.corners_in-in-5.ensures
+returns-in-5 c = rw c.in-5.is c.corners_in-in-5.ensures
 
 pub returns-in-6 : goal.returns-in-6
 unfolding corners_at corners_in cone round of_bits of_int neg
-returns-in-6 c = rw c.in-6.OWN.keys6 c.corners_in-in-6.ensures
+returns-in-6 c = rw c.in-6.is c.corners_in-in-6.ensures
 
 pub returns-in-7 : goal.returns-in-7
 unfolding corners_at corners_in cone round of_bits of_int neg
-returns-in-7 c = rw c.in-7.OWN.keys7 c.corners_in-in-7.ensures
+returns-in-7 c = rw c.in-7.is c.corners_in-in-7.ensures
 
 pub returns-in-8 : goal.returns-in-8
 unfolding corners_at corners_in cone round of_bits of_int neg
-returns-in-8 c = rw c.in-8.OWN.keys8 c.corners_in-in-8.ensures
+returns-in-8 c = rw c.in-8.is c.corners_in-in-8.ensures
 
 pub returns-in-9 : goal.returns-in-9
 unfolding corners_at corners_in cone round of_bits of_int neg
-returns-in-9 c = rw c.in-9.OWN.keys9 c.corners_in-in-9.ensures
+returns-in-9 c = rw c.in-9.is c.corners_in-in-9.ensures
 
 pub returns-in-10 : goal.returns-in-10
 unfolding corners_at corners_in cone round of_bits of_int neg
-returns-in-10 c = rw c.in-10.OWN.keys10 c.corners_in-in-10.ensures
+returns-in-10 c = rw c.in-10.is c.corners_in-in-10.ensures
 
 pub returns-in-11 : goal.returns-in-11
 unfolding corners_at corners_in cone round of_bits of_int neg
-returns-in-11 c = rw c.in-11.OWN.keys11 c.corners_in-in-11.ensures
+returns-in-11 c = rw c.in-11.is c.corners_in-in-11.ensures

@@ -9,11 +9,19 @@ pub returns-then-any_outside : goal.returns-then-any_outside
 unfolding cone_gain_number cone_gain_value invcon_number invcon_of invcon_value first_refusal round of_bits
 returns-then-any_outside c =
     let same = c.any_outside.ensures in
-    (rw (← same, c.if-any_outside.true), (rw (← same, c.if-any_outside.true), rw (← same, c.if-any_outside.true)))
+    record {
+      value = rw (← same, c.if-any_outside.true);
+      number = rw (← same, c.if-any_outside.true);
+      gain = rw (← same, c.if-any_outside.true);
+    }
 
 pub returns : goal.returns
 unfolding cone_gain_number cone_gain_value invcon_number invcon_of invcon_value first_refusal round of_bits
 returns c =
     let same = c.any_outside.ensures in
     let left = c.if-any_outside.false in
-    (rw (← same, left) (ap (λ (x : Float). Accepted x) c.cone_value.ensures), (rw (← same, left), rw (← same, left) c.cone_value.ensures))
+    record {
+      value = rw (← same, left) (ap (λ (x : Float). Accepted x) c.cone_value.ensures);
+      number = rw (← same, left);
+      gain = rw (← same, left) c.cone_value.ensures;
+    }

@@ -17,15 +17,15 @@ use Rattle.patterns.proofs.pattern.pattern_of.Goals.{After-height_in_waves-above
 
 module _ (c : After-height_in_waves-above) where
   abbrev antenna : Antenna
-  antenna = c.before.before.before.before.before.before.args.antenna
+  antenna = c.args.antenna
 
   abbrev wave : Float
-  wave = c.before.before.before.before.before.before.args.wave
+  wave = c.args.wave
 
   -- an arm of the match: the type is its key's
-  answered : {n : ℕ} (r : PatternAnswer) → of_z w32 antenna.kop ≡ n → r ≡ pattern_by (to_z w32 n) antenna wave c.before.leg-in-waves.result c.height-in-waves.result
+  answered : {n : ℕ} (r : PatternAnswer) → of_z w32 antenna.kop ≡ n → r ≡ pattern_by (to_z w32 n) antenna wave c.leg_in_waves-along.result c.height_in_waves-above.result
       → IsAnswer pattern_number pattern_value P.Other 11 (pattern_of antenna wave) (pattern_settles antenna wave) r
-  answered r k = type_answers antenna wave c.before.leg-in-waves.result c.height-in-waves.result r (is_type_lem antenna.kop (search rules) k) c.before.leg-in-waves.ensures c.height-in-waves.ensures
+  answered r k = type_answers antenna wave c.leg_in_waves-along.result c.height_in_waves-above.result r (is_type_lem antenna.kop (search rules) k) c.leg_in_waves-along.ensures c.height_in_waves-above.ensures
 
 pub returns-in_default : goal.returns-in_default
 unfolding pattern_of

@@ -1,6 +1,7 @@
 use mathlib.Core.Path.{◌≡◌, refl}
 use mathlib.Core.List.{[], ◌∷◌}
 use types.Run.{OneOf, miss}
+use borrow.Enum.Refused.{opened}
 use denote.Enum.Declared.{tag_of}
 use Rattle.patterns.specs.declared.pattern.Pattern.{Pattern}
 use Rattle.patterns.specs.declared.pattern.Pattern.TheVariants as P
@@ -28,4 +29,4 @@ other P.Other t = refl
 
 pub returns-in_default : goal.returns-in_default
 unfolding round of_bits
-returns-in_default c = other c.args.pattern c.in_default.in_default-own.keys2
+returns-in_default c = other c.args.pattern (opened c.in_default.in_default-own.keys2)
