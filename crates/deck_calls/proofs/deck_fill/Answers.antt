@@ -25,7 +25,7 @@ accepts f g h t t' v d e n p =
 
 pub returns-then-slots-ne-SLOTS : goal.returns-then-slots-ne-SLOTS
 unfolding fill_number filled
-returns-then-slots-ne-SLOTS c = let e = ne_eqb _ _ c.if-slots-ne-SLOTS.true in (simp e c.length_refusal.ensures, simp e c.clear_refused.ensures)
+returns-then-slots-ne-SLOTS c = let e = ne_eqb _ _ c.if-slots-ne-SLOTS.true in record { value = simp e c.length_refusal.ensures; table_after = simp e c.clear_refused.ensures }
 
 pub returns : goal.returns
 returns c =
@@ -47,4 +47,5 @@ returns c =
     let first = to_z-of_z w32 a.first (search rules) in
     let last = to_z-of_z w32 a.last (search rules) in
     let same : given ≡ fields = rw (kop, first, last, ← s.ensures, ← model) in
-    accepts given fields a.height a.table.now _ _ _ same n c.run_card-answer.ensures.0
+    let both = accepts given fields a.height a.table.now _ _ _ same n c.run_card-answer.ensures.entry_done in
+    record { value = both.0; table_after = both.1 }

@@ -216,5 +216,5 @@ iongain_spec 𝓤 𝓛 𝓜 𝓡 =
     entered 𝓤 𝓛.H (triple_of 𝓛 f.signature (f.spec 𝓛 𝓜.mem 𝓡.run))
     (tables 𝓤 𝓛.H 𝓜 𝓡 code.env).C (tables 𝓤 𝓛.H 𝓜 𝓡 code.env).Λ #iongain code.function (code.unfolded 𝓤 𝓛.H 𝓜 𝓡)
     (iongain_meets 𝓛 𝓜.mem 𝓡.run (tables_of 𝓤 𝓛.H 𝓜 (tables 𝓤 𝓛.H 𝓜 𝓡 code.env))
-    (cited 𝓤 𝓛.H (Ans 𝓛 𝓜.mem 𝓡.run) 𝓜 𝓡 code.env #gain-of gain_def.routine code.calls_ioncap::gain_of_lem (gain_thm.met 𝓤 𝓛 𝓜 𝓡))
-    (cited 𝓤 𝓛.H (Left 𝓛 𝓜.mem 𝓡.run) 𝓜 𝓡 code.env #height-left left_def.routine code.calls_ioncap::height_left_lem (left_thm.met 𝓤 𝓛 𝓜 𝓡)))
+    (cited 𝓤 𝓛.H (Ans 𝓛 𝓜.mem 𝓡.run) 𝓜 𝓡 code.env #gain-of gain_def.routine code.calls-ioncap::gain_of_lem (gain_thm.met 𝓤 𝓛 𝓜 𝓡))
+    (cited 𝓤 𝓛.H (Left 𝓛 𝓜.mem 𝓡.run) 𝓜 𝓡 code.env #height-left left_def.routine code.calls-ioncap::height_left_lem (left_thm.met 𝓤 𝓛 𝓜 𝓡)))

@@ -12,21 +12,11 @@ use Rattle.antenna.proofs.Bounds.{low_in, high_in}
 use Rattle.antenna.proofs.CardRows.{end_fits, ends_in}
 use borrow.Author.Rules.{rules}
 use Rattle.antenna.proofs.lookups.card_lookup.Goals as goal
-use Rattle.antenna.proofs.lookups.card_lookup.Goals.{After-card_refusal-refusal, After-locate-at, Start}
 
--- the first and the last MHz as the machine reads them back
-signed : (c : Start)
-    → (to_z w32 (of_z w32 c.args.first) ≡ c.args.first) × (to_z w32 (of_z w32 c.args.last) ≡ c.args.last)
-signed c = (to_z-of_z w32 _ (search rules), to_z-of_z w32 _ (search rules))
-
-number : (c : After-card_refusal-refusal)
-    → let a = c.args in
-    c.card_refusal-refusal.result ≡ card_lookup_number a.first a.last a.verdict a.table.now a.fmc a.delta
-number c = let r = signed c.before.before in rw (r.0, r.1) at c.card_refusal-refusal.ensures
 
 pub returns-then-refusal-ne0 : goal.returns-then-refusal-ne0
 unfolding lookup_number lookup_values card_lookup_of card_lookup_values
-returns-then-refusal-ne0 c = let e = number c.before in record {
+returns-then-refusal-ne0 c = let e = (let z : let a = c.args in c.card_refusal-refusal.result ≡ card_lookup_number a.first a.last a.verdict a.table.now a.fmc a.delta = let r = (let z : (to_z w32 (of_z w32 c.args.first) ≡ c.args.first) × (to_z w32 (of_z w32 c.args.last) ≡ c.args.last) = (to_z-of_z w32 _ (search rules), to_z-of_z w32 _ (search rules)) in z) in rw (r.0, r.1) at c.card_refusal-refusal.ensures in z) in record {
       value = rw (← e, ne_eqb _ 0 c.if-refusal-ne0.true);
       number = e;
       values = rw (← e, ne_eqb _ 0 c.if-refusal-ne0.true);
@@ -35,7 +25,7 @@ returns-then-refusal-ne0 c = let e = number c.before in record {
 pub returns-then-verdict-ne0 : goal.returns-then-verdict-ne0
 unfolding lookup_number lookup_values card_lookup_of card_lookup_values round of_bits
 returns-then-verdict-ne0 c =
-    let e = number c.before.before in
+    let e = (let z : let a = c.args in c.card_refusal-refusal.result ≡ card_lookup_number a.first a.last a.verdict a.table.now a.fmc a.delta = let r = (let z : (to_z w32 (of_z w32 c.args.first) ≡ c.args.first) × (to_z w32 (of_z w32 c.args.last) ≡ c.args.last) = (to_z-of_z w32 _ (search rules), to_z-of_z w32 _ (search rules)) in z) in rw (r.0, r.1) at c.card_refusal-refusal.ensures in z) in
     let z = c.if-refusal-ne0.false in
     let v = ne_eqb _ 0 c.if-verdict-ne0.true in
     record {
@@ -47,36 +37,33 @@ returns-then-verdict-ne0 c =
 pub locate-at-requires : goal.locate-at-requires
 locate-at-requires c = let a = card_accepted _ _ _ _ _ _ (sym c.card_refusal-refusal.ensures ∙ c.if-refusal-ne0.false) in (a.1, a.2)
 
--- of an accepted card that is not refused
-range : (c : After-locate-at) → let a = c.args in Range a.first a.last
-range c =
-    let z = c.if-refusal-ne0.false in
-    range_of_lem _ _ (card-range _ _ _ _ _ _ (sym (number c.before.before.before) ∙ z) (eq-eqb _ 0 c.if-verdict-ne0.false))
-
 pub overflow_cast-first : goal.overflow_cast-first
 overflow_cast-first c =
-    let r = range c in
-    end_fits _ _ (signed c.before.before.before.before.before).0 r.first_whole (omega (arith, r.order, r.high))
+    let r = (let z : let a = c.args in Range a.first a.last = let z = c.if-refusal-ne0.false in
+    range_of_lem _ _ (card-range _ _ _ _ _ _ (sym ((let z : let a = c.args in c.card_refusal-refusal.result ≡ card_lookup_number a.first a.last a.verdict a.table.now a.fmc a.delta = let r = (let z : (to_z w32 (of_z w32 c.args.first) ≡ c.args.first) × (to_z w32 (of_z w32 c.args.last) ≡ c.args.last) = (to_z-of_z w32 _ (search rules), to_z-of_z w32 _ (search rules)) in z) in rw (r.0, r.1) at c.card_refusal-refusal.ensures in z)) ∙ z) (eq-eqb _ 0 c.if-verdict-ne0.false)) in z) in
+    end_fits _ _ ((let z : (to_z w32 (of_z w32 c.args.first) ≡ c.args.first) × (to_z w32 (of_z w32 c.args.last) ≡ c.args.last) = (to_z-of_z w32 _ (search rules), to_z-of_z w32 _ (search rules)) in z)).0 r.first_whole (omega (arith, r.order, r.high))
 
 pub overflow_cast-last : goal.overflow_cast-last
-overflow_cast-last c = let r = range c in end_fits _ _ (signed c.before.before.before.before.before).1 r.last_whole r.high
+overflow_cast-last c = let r = (let z : let a = c.args in Range a.first a.last = let z = c.if-refusal-ne0.false in
+    range_of_lem _ _ (card-range _ _ _ _ _ _ (sym ((let z : let a = c.args in c.card_refusal-refusal.result ≡ card_lookup_number a.first a.last a.verdict a.table.now a.fmc a.delta = let r = (let z : (to_z w32 (of_z w32 c.args.first) ≡ c.args.first) × (to_z w32 (of_z w32 c.args.last) ≡ c.args.last) = (to_z-of_z w32 _ (search rules), to_z-of_z w32 _ (search rules)) in z) in rw (r.0, r.1) at c.card_refusal-refusal.ensures in z)) ∙ z) (eq-eqb _ 0 c.if-verdict-ne0.false)) in z) in end_fits _ _ ((let z : (to_z w32 (of_z w32 c.args.first) ≡ c.args.first) × (to_z w32 (of_z w32 c.args.last) ≡ c.args.last) = (to_z-of_z w32 _ (search rules), to_z-of_z w32 _ (search rules)) in z)).1 r.last_whole r.high
 
 pub from_filled_rows-requires : goal.from_filled_rows-requires
 from_filled_rows-requires c =
-    let s = signed c.before.before.before.before.before in
+    let s = (let z : (to_z w32 (of_z w32 c.args.first) ≡ c.args.first) × (to_z w32 (of_z w32 c.args.last) ≡ c.args.last) = (to_z-of_z w32 _ (search rules), to_z-of_z w32 _ (search rules)) in z) in
     let size = (card_accepted _ _ _ _ _ _ (sym c.card_refusal-refusal.ensures ∙ c.if-refusal-ne0.false)).0 in
     let at = c.locate-at.ensures in
     record {
       table_len = size;
-      in_table = rw (s.0, s.1, at) (ends_in _ _ _ _ (range c));
+      in_table = rw (s.0, s.1, at) (ends_in _ _ _ _ ((let z : let a = c.args in Range a.first a.last = let z = c.if-refusal-ne0.false in
+    range_of_lem _ _ (card-range _ _ _ _ _ _ (sym ((let z : let a = c.args in c.card_refusal-refusal.result ≡ card_lookup_number a.first a.last a.verdict a.table.now a.fmc a.delta = let r = (let z : (to_z w32 (of_z w32 c.args.first) ≡ c.args.first) × (to_z w32 (of_z w32 c.args.last) ≡ c.args.last) = (to_z-of_z w32 _ (search rules), to_z-of_z w32 _ (search rules)) in z) in rw (r.0, r.1) at c.card_refusal-refusal.ensures in z)) ∙ z) (eq-eqb _ 0 c.if-verdict-ne0.false)) in z)));
       in_table_2 = (rw at (low_in _ _), rw at (high_in _ _));
     }
 
 pub returns : goal.returns
 unfolding lookup_number lookup_values card_lookup_of card_lookup_values
 returns c =
-    let e = number c.before.before.before.before in
-    let s = signed c.before.before.before.before.before.before in
+    let e = (let z : let a = c.args in c.card_refusal-refusal.result ≡ card_lookup_number a.first a.last a.verdict a.table.now a.fmc a.delta = let r = (let z : (to_z w32 (of_z w32 c.args.first) ≡ c.args.first) × (to_z w32 (of_z w32 c.args.last) ≡ c.args.last) = (to_z-of_z w32 _ (search rules), to_z-of_z w32 _ (search rules)) in z) in rw (r.0, r.1) at c.card_refusal-refusal.ensures in z) in
+    let s = (let z : (to_z w32 (of_z w32 c.args.first) ≡ c.args.first) × (to_z w32 (of_z w32 c.args.last) ≡ c.args.last) = (to_z-of_z w32 _ (search rules), to_z-of_z w32 _ (search rules)) in z) in
     let z = c.if-refusal-ne0.false in
     let v = eq-eqb _ 0 c.if-verdict-ne0.false in
     let at = c.locate-at.ensures in

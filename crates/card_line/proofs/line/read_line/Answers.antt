@@ -31,14 +31,13 @@ bytes c = c.args.s.now
 
 pub returns : goal.returns
 returns c =
-    let r = ((sym c.read_integer.ensures.0 ∙ c.in-Number.is, sym c.read_integer-2.ensures.0 ∙ c.in-Number-read_integer.is, sym c.read_integer-3.ensures.0 ∙ c.in-Number-read_integer-2.is)) in
-    all_read _ _ _ _ _ _ _ c.if-s-ne-BYTES.false r.0 r.1 r.2 c.read_decimals-well_formed.ensures (c.if-not-well_formed.false) c.card_fields.ensures
+    all_read _ _ _ _ _ _ _ c.if-s-ne-BYTES.false (sym c.read_integer.ensures.0 ∙ c.in-Number.is) (sym c.read_integer-2.ensures.0 ∙ c.in-Number-read_integer.is) (sym c.read_integer-3.ensures.0 ∙ c.in-Number-read_integer-2.is) c.read_decimals-well_formed.ensures (c.if-not-well_formed.false) c.card_fields.ensures
 
 pub overflow_cast-kop : goal.overflow_cast-kop
-overflow_cast-kop c = i32_fits (bytes c) 0 _ (((sym c.read_integer.ensures.0 ∙ c.in-Number.is, sym c.read_integer-2.ensures.0 ∙ c.in-Number-read_integer.is, sym c.read_integer-3.ensures.0 ∙ c.in-Number-read_integer-2.is))).0
+overflow_cast-kop c = i32_fits (bytes c) 0 _ (sym c.read_integer.ensures.0 ∙ c.in-Number.is)
 
 pub overflow_cast-first : goal.overflow_cast-first
-overflow_cast-first c = i32_fits (bytes c) 3 _ (((sym c.read_integer.ensures.0 ∙ c.in-Number.is, sym c.read_integer-2.ensures.0 ∙ c.in-Number-read_integer.is, sym c.read_integer-3.ensures.0 ∙ c.in-Number-read_integer-2.is))).1
+overflow_cast-first c = i32_fits (bytes c) 3 _ (sym c.read_integer-2.ensures.0 ∙ c.in-Number-read_integer.is)
 
 pub overflow_cast-last : goal.overflow_cast-last
-overflow_cast-last c = i32_fits (bytes c) 6 _ (((sym c.read_integer.ensures.0 ∙ c.in-Number.is, sym c.read_integer-2.ensures.0 ∙ c.in-Number-read_integer.is, sym c.read_integer-3.ensures.0 ∙ c.in-Number-read_integer-2.is))).2
+overflow_cast-last c = i32_fits (bytes c) 6 _ (sym c.read_integer-3.ensures.0 ∙ c.in-Number-read_integer-2.is)

@@ -1,6 +1,7 @@
 use mathlib.Core.Path.{◌≡◌, refl, sym, ap, ◌∙◌}
 use mathlib.Core.List.{[], ◌∷◌}
 use types.Run.{OneOf, miss}
+use borrow.Enum.Refused.{opened}
 use denote.Enum.Declared.{tag_of}
 use lib.Ieee.{Float}
 use Rattle.angles.specs.declared.angles.Azimuth.{Azimuth}
@@ -31,4 +32,4 @@ no_curtain P.Other t row azimuth delta e = refl
 
 pub returns-in_default : goal.returns-in_default
 unfolding cell_of
-returns-in_default c = let s = c.args in c.power_cell.ensures ∙ no_curtain s.row.pattern c.in_default.in_default-own.keys2 _ _ s.delta _
+returns-in_default c = let s = c.args in c.power_cell.ensures ∙ no_curtain s.row.pattern (opened c.in_default.in_default-own.keys2) _ _ s.delta _

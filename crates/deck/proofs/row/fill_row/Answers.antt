@@ -8,16 +8,10 @@ use Rattle.deck.proofs.Elevations.{column_read}
 use Rattle.deck.proofs.Fills.{row_unsettled, row_settled}
 use borrow.Author.Rules.{rules}
 use Rattle.deck.proofs.row.fill_row.Goals as goal
-use Rattle.deck.proofs.row.fill_row.Goals.{After-fill_above, After-ground_cell}
+
 
 pub returns-in_default : goal.returns-in_default
 returns-in_default c = row_unsettled _ _ _ _ _ (sym c.row_of.ensures.0 ∙ c.in_default.is)
-
-ground_stored : (c : After-ground_cell) → let s = c.args in length (set s.table.now ((s.m - 1) * 91) c.ground_cell.result) ≡ length s.table.now
-ground_stored c = simp length-set
-
-above_stored : (c : After-fill_above) → length c.fill_above.new.table ≡ length c.args.table.now
-above_stored c = c.fill_above.ensures.1 ∙ ground_stored c.before.before.before
 
 pub overflow_sub-table : goal.overflow_sub-table
 overflow_sub-table c = c.requires.1
@@ -26,7 +20,7 @@ pub bounds-table-m : goal.bounds-table-m
 bounds-table-m c = let p = c.requires in omega (arith, p.0, p.1, p.2)
 
 pub fill_above-requires : goal.fill_above-requires
-fill_above-requires c = let p = c.requires in (ground_stored c.before.before ∙ p.0, p.1, p.2, p.3)
+fill_above-requires c = let p = c.requires in ((let z : let s = c.args in length (set s.table.now ((s.m - 1) * 91) c.ground_cell.result) ≡ length s.table.now = simp length-set in z) ∙ p.0, p.1, p.2, p.3)
 
 pub overflow_sub-table-2 : goal.overflow_sub-table-2
 overflow_sub-table-2 c = c.requires.1
@@ -38,10 +32,10 @@ pub offset_bounds-table-m-2 : goal.offset_bounds-table-m-2
 offset_bounds-table-m-2 c = omega (arith, c.requires.2)
 
 pub bounds-table-m-2 : goal.bounds-table-m-2
-bounds-table-m-2 c = let p = c.requires in omega (arith, p.0, p.2, above_stored c.before.before)
+bounds-table-m-2 c = let p = c.requires in omega (arith, p.0, p.2, (let z : length c.fill_above.new.table ≡ length c.args.table.now = c.fill_above.ensures.1 ∙ (let z : let s = c.args in length (set s.table.now ((s.m - 1) * 91) c.ground_cell.result) ≡ length s.table.now = simp length-set in z) in z))
 
 pub shape_of-table : goal.shape_of-table
-shape_of-table c = search (rules, above_stored c.before.before)
+shape_of-table c = search (rules, (let z : length c.fill_above.new.table ≡ length c.args.table.now = c.fill_above.ensures.1 ∙ (let z : let s = c.args in length (set s.table.now ((s.m - 1) * 91) c.ground_cell.result) ≡ length s.table.now = simp length-set in z) in z))
 
 pub returns : goal.returns
 returns c =

@@ -14,7 +14,8 @@ returns-then-verdict-ne0 c =
     let room = room_before_work the_antenna the_laws count_limit _ _ _ _ verdict in
     let deck = ap state_of c.refused_deck.ensures ∙ within _ _ (λ ne. room ne) in
     let cleared = c.clear_refused.ensures in
-    answered _ _ _ _ (entry_refused_before the_antenna the_laws count_limit _ _ _ _ _ _ verdict c.if-verdict-ne0.true cleared deck)
+    let both = answered _ _ _ _ (entry_refused_before the_antenna the_laws count_limit _ _ _ _ _ _ verdict c.if-verdict-ne0.true cleared deck) in
+    record { entry_done = both.0; value = both.1 }
 
 pub fill_card-filled-requires : goal.fill_card-filled-requires
 fill_card-filled-requires c =
@@ -30,7 +31,8 @@ returns-then-filled-ne0 c =
     let cleared = c.clear_refused.ensures in
     let refused = c.if-filled-ne0.true in
     let cleared_again = c.clear_refused-then-filled-ne0.ensures in
-    answered _ _ _ _ (entry_refused the_antenna the_laws count_limit _ _ _ _ _ _ _ _ _ none cleared c.fill_card-filled.ensures refused cleared_again deck)
+    let both = answered _ _ _ _ (entry_refused the_antenna the_laws count_limit _ _ _ _ _ _ _ _ _ none cleared c.fill_card-filled.ensures refused cleared_again deck) in
+    record { entry_done = both.0; value = both.1 }
 
 pub overflow_add-result : goal.overflow_add-result
 overflow_add-result c =
@@ -42,4 +44,5 @@ pub returns : goal.returns
 returns c =
     let none = sym c.if-verdict-ne0.false ∙ c.refusal_before_work-verdict.ensures in
     let cleared = c.clear_refused.ensures in
-    answered _ _ _ _ (entry_accepted the_antenna the_laws count_limit _ _ _ _ _ _ _ none cleared c.fill_card-filled.ensures c.if-filled-ne0.false)
+    let both = answered _ _ _ _ (entry_accepted the_antenna the_laws count_limit _ _ _ _ _ _ _ none cleared c.fill_card-filled.ensures c.if-filled-ne0.false) in
+    record { entry_done = both.0; value = both.1 }

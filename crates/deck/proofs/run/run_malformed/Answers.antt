@@ -12,4 +12,5 @@ returns c =
     let verdict = c.malformed_refusal-verdict.ensures in
     let room = room_malformed the_antenna the_laws count_limit _ _ _ verdict in
     let deck = ap state_of c.refused_deck.ensures ∙ within _ _ (λ ne. room ne) in
-    answered _ _ _ _ (entry_malformed the_antenna the_laws count_limit _ _ _ _ _ verdict c.clear_refused.ensures deck)
+    let both = answered _ _ _ _ (entry_malformed the_antenna the_laws count_limit _ _ _ _ _ verdict c.clear_refused.ensures deck) in
+    record { entry_done = both.0; value = both.1 }

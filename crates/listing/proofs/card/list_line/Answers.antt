@@ -17,4 +17,4 @@ pub rows-end-requires : goal.rows-end-requires
 rows-end-requires c = (accepted _ _ _ _ _ c.run_line-answer.ensures, search rules, room c.heading-begun.ensures 540 (heading_length _ _ _) c.requires.2 (lit≤ tt))
 
 pub returns : goal.returns
-returns c = line_listed _ _ _ _ _ _ _ _ _ _ _ _ _ _ c.count-place.ensures c.read_line-card.result c.read_line-card.ensures (to_z-of_z w32 _ (search rules) ∙ c.card_type.ensures) c.run_line-answer.ensures c.heading-begun.ensures c.rows-end.ensures.0 c.rows-end.ensures.1
+returns c = line_listed _ _ _ _ _ _ _ _ _ _ _ _ _ _ c.count-place.ensures c.read_line-card.result c.read_line-card.ensures (to_z-of_z w32 _ (search rules) ∙ c.card_type.ensures) c.run_line-answer.ensures c.heading-begun.ensures c.rows-end.ensures.appended c.rows-end.ensures.upper_bound

@@ -9,7 +9,7 @@ use Rattle.listing.proofs.Entries.{refused_rows, card_rows, accepted_rows}
 use Rattle.listing.proofs.card.rows.Goals as goal
 
 pub returns-then-verdict-ne0 : goal.returns-then-verdict-ne0
-returns-then-verdict-ne0 c = (refused_rows c.args.line _ _ _ _ c.if-verdict-ne0.true (omega (arith, c.requires.2)), omega arith)
+returns-then-verdict-ne0 c = record { appended = refused_rows c.args.line _ _ _ _ c.if-verdict-ne0.true (omega (arith, c.requires.2)); upper_bound = omega arith }
 
 pub overflow_cast-from : goal.overflow_cast-from
 unfolding card_of
@@ -33,4 +33,4 @@ rows-requires c = let r = card_rows c.args.line (c.requires.0 c.if-verdict-ne0.f
 
 pub returns : goal.returns
 unfolding card_of
-returns c = let r = card_rows c.args.line (c.requires.0 c.if-verdict-ne0.false) in (accepted_rows c.args.line _ _ _ _ _ _ (c.requires.0 c.if-verdict-ne0.false) c.if-verdict-ne0.false c.rows.ensures, omega (arith, c.rows.ensures.end, rows_length c.args.table.now (nat_abs (to_z w32 (of_z w32 c.args.line.fields.first))) (nat_abs (to_z w32 (of_z w32 c.args.line.fields.last)) - nat_abs (to_z w32 (of_z w32 c.args.line.fields.first)) + 1), r.low, r.order, r.high))
+returns c = let r = card_rows c.args.line (c.requires.0 c.if-verdict-ne0.false) in record { appended = accepted_rows c.args.line _ _ _ _ _ _ (c.requires.0 c.if-verdict-ne0.false) c.if-verdict-ne0.false c.rows.ensures; upper_bound = omega (arith, c.rows.ensures.end, rows_length c.args.table.now (nat_abs (to_z w32 (of_z w32 c.args.line.fields.first))) (nat_abs (to_z w32 (of_z w32 c.args.line.fields.last)) - nat_abs (to_z w32 (of_z w32 c.args.line.fields.first)) + 1), r.low, r.order, r.high) }
