@@ -1,5 +1,5 @@
 -- Laws of the gain call that a deck rests on: what the ground gives, what depends on the carried height, the height left, the floor. Assumes nothing.
-use Rattle.core.specs.Prelude.{◌≡◌, Bool, true, false, ◌||◌, T, eqb, ◌⊎◌, ℤ, pos, negsuc}
+use Rattle.std.specs.Prelude.{◌≡◌, Bool, true, false, ◌||◌, T, eqb, ◌⊎◌, ℤ, pos, negsuc}
 use mathlib.Core.Path.{refl, sym, ap, subst, ◌∙◌}
 use lib.Dec.{eqb→eq}
 use lib.Ieee.{Float, nan, lt, le}

@@ -1,5 +1,5 @@
 -- Refusal 11 arises in the work where, and only where, its row's pattern is unsettled (patterns/proofs/Unsettled.antt): above the ground, and at it for types 3 and 4 alone. Assumes nothing.
-use Rattle.core.specs.Prelude.{◌≡◌, Bool, true, false, ◌⊎◌}
+use Rattle.std.specs.Prelude.{◌≡◌, Bool, true, false, ◌⊎◌}
 use mathlib.Core.Path.{refl, ◌∙◌}
 use mathlib.Core.Logic.{inl, inr}
 use native.Mathlib.Omega.{arith}

@@ -1,5 +1,5 @@
 -- Document 01 section 6: `iongain` within the limits, by value. The ground path takes the carried height, the path above it does not. Definitions only.
-use Rattle.core.specs.Prelude.{ℕ, Bool, true, cond}
+use Rattle.std.specs.Prelude.{ℕ, Bool, true, cond}
 use Rattle.std.specs.Prelude.{Float}
 use Rattle.std.specs.Float.Ieee.{le}
 use Rattle.single.specs.Single.{num}

@@ -1,5 +1,5 @@
 // `iongain` by value, within the limits: at the ground by the carried height, above it without.
-ghost use Rattle.core.specs.Prelude.{◌≡◌, not, ◌&&◌};
+ghost use Rattle.std.specs.Prelude.{◌≡◌, not, ◌&&◌};
 ghost use Rattle.std.specs.Float.Ieee.{le};
 ghost use Rattle.single.specs.Single.{num};
 ghost use Rattle.single.specs.Answer.{IsAnswer};

@@ -1,5 +1,5 @@
 use mathlib.Core.Path.{ap}
-use Rattle.core.specs.Prelude.{not}
+use Rattle.std.specs.Prelude.{not}
 use lib.Ieee.{round, of_bits}
 use mir.Syntax.{w32}
 use mir.ValLaws.{to_z-of_z}
