@@ -46,7 +46,7 @@ module _ (c : Card) (m : ℕ) where
 
     pub ground_unsettled : (h : Float) → ((call_of c m 0 h).refusal ≡ 0) ⊎ ((call_of c m 0 h).refusal ≡ 11)
     unfolding at_ground
-    ground_unsettled h = at_ground_lem h (λ a. (a.refusal ≡ 0) ⊎ (a.refusal ≡ 11)) (λ up. elim up [ true ↦ λ e. rw (e, un) (inr refl) | false ↦ λ e. rw e (inl refl) ])
+    ground_unsettled h = at_ground_lem h (λ a. (a.refusal ≡ 0) ⊎ (a.refusal ≡ 11)) (λ up. elim up as (λ k. blends_with_zenith (antenna_for c).kop ≡ k → ((answer_of (at_ground (antenna_for c) (whole m) (column_at 0) h)).refusal ≡ 0) ⊎ ((answer_of (at_ground (antenna_for c) (whole m) (column_at 0) h)).refusal ≡ 11)) [ true ↦ λ e. rw (e, un) (inr refl) | false ↦ λ e. rw e (inl refl) ])
 
   -- ---- a row that settles
   module _ (row : Row) (turns : Turns) (is : row_of (antenna_for c) (whole m) ≡ R.Settled row turns) where
@@ -65,4 +65,4 @@ module _ (c : Card) (m : ℕ) where
     unfolding at_ground zenith_gain_for ground_cell
     ground_settled h =
         at_ground_lem h (λ a. (a.refusal ≡ 0) × (a.gain ≡ ground_cell (antenna_for c).kop (zenith_gain_for row) (column_at 0) h))
-        (λ up. elim up [ true ↦ λ e. rw (e, is, ap blends_with_zenith own.0 ∙ e) (refl, refl) | false ↦ λ e. rw e (refl, refl) ])
+        (λ up. elim up as (λ k. blends_with_zenith (antenna_for c).kop ≡ k → ((answer_of (at_ground (antenna_for c) (whole m) (column_at 0) h)).refusal ≡ 0) × ((answer_of (at_ground (antenna_for c) (whole m) (column_at 0) h)).gain ≡ ground_cell (antenna_for c).kop (zenith_gain_for row) (column_at 0) h)) [ true ↦ λ e. rw (e, is, ap blends_with_zenith own.0 ∙ e) (refl, refl) | false ↦ λ e. rw e (refl, refl) ])
