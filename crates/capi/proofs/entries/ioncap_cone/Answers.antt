@@ -13,12 +13,12 @@ pub returns-in-Accepted : goal.returns-in-Accepted
 unfolding cone_gain_number cone_gain_value round of_bits
 returns-in-Accepted c =
     let case = c.in-Accepted.is in
-    let r = cone_written _ _ _ c.if-answer-ne-ANSWER_LENGTH.false c.invcon.result c.invcon.ensures.number _ _ (rw case) (rw case c.write_answer.ensures) in
+    let r = cone_written _ _ _ c.if-answer-ne-ANSWER_LENGTH.false c.invcon.result (c.invcon.ensures.number, c.invcon.ensures.gain) _ _ (rw case) (rw case c.write_answer.ensures) in
     record { value = r.0; answer_after = r.1 }
 
 pub returns-in-Refused : goal.returns-in-Refused
 unfolding cone_gain_number cone_gain_value round of_bits
 returns-in-Refused c =
     let case = c.in-Refused.is in
-    let r = cone_written _ _ _ c.if-answer-ne-ANSWER_LENGTH.false c.invcon.result c.invcon.ensures.number _ _ (rw case) (rw case c.write_answer-in-Refused.ensures) in
+    let r = cone_written _ _ _ c.if-answer-ne-ANSWER_LENGTH.false c.invcon.result (c.invcon.ensures.number, c.invcon.ensures.gain) _ _ (rw case) (rw case c.write_answer-in-Refused.ensures) in
     record { value = r.0; answer_after = r.1 }

@@ -14,7 +14,7 @@ unfolding lookup_number lookup_values round of_bits
 returns-in-Accepted c =
     let case = c.in-Accepted.is in
     let found = c.gain_lookup_in_bytes in
-    let r = lookup_written _ _ _ _ c.if-answer-ne-ANSWER_LENGTH.false found.result found.ensures.number _ _ (rw case) (rw case c.write_answer.ensures) in
+    let r = lookup_written _ _ _ _ c.if-answer-ne-ANSWER_LENGTH.false found.result (found.ensures.number, found.ensures.values) _ _ (rw case) (rw case c.write_answer.ensures) in
     record { value = r.0; answer_after = r.1 }
 
 pub returns-in-Refused : goal.returns-in-Refused
@@ -22,5 +22,5 @@ unfolding lookup_number lookup_values round of_bits
 returns-in-Refused c =
     let case = c.in-Refused.is in
     let found = c.gain_lookup_in_bytes in
-    let r = lookup_written _ _ _ _ c.if-answer-ne-ANSWER_LENGTH.false found.result found.ensures.number _ _ (rw case) (rw case c.write_answer-in-Refused.ensures) in
+    let r = lookup_written _ _ _ _ c.if-answer-ne-ANSWER_LENGTH.false found.result (found.ensures.number, found.ensures.values) _ _ (rw case) (rw case c.write_answer-in-Refused.ensures) in
     record { value = r.0; answer_after = r.1 }
