@@ -1,5 +1,5 @@
 use mathlib.Core.Path.{◌≡◌}
-use Prim.Native.Nat.{◌-◌, ◌<◌, ◌≤◌}
+use Prim.Native.Nat.{◌<◌, ◌≤◌}
 use lib.ListN.{length, drop}
 use Rattle.inverted_cone.specs.InvertedCone.{upper_from}
 use Rattle.inverted_cone.proofs.cone.upper.Given as goal

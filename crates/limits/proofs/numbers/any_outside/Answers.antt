@@ -1,5 +1,4 @@
 use Rattle.limits.proofs.Outside.{found, passed, ended}
-use Prim.Native.Nat.{◌-◌}
 use mathlib.Core.Path.{refl, sym, ◌∙◌}
 use Rattle.limits.proofs.numbers.any_outside.Goals as goal
 

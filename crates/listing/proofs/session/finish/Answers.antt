@@ -1,5 +1,6 @@
+use mathlib.Core.Bool.{not}
 use lib.ListN.{length}
-use mathlib.Core.Path.{◌≡◌}
+use mathlib.Core.Path.{ap, ◌≡◌}
 use Rattle.listing.proofs.Sessions.{held_low, finish_idle, finish_empty, finish_held}
 use Rattle.listing.specs.Ready.{Ready}
 use Rattle.listing.proofs.Ready.{tested}
@@ -9,19 +10,19 @@ use Rattle.listing.proofs.session.finish.Goals as goal
 
 
 pub returns-then-not-is_ready : goal.returns-then-not-is_ready
-returns-then-not-is_ready c = finish_idle _ _ _ _ _ _ c.is_ready.ensures c.if-not-is_ready.true
+returns-then-not-is_ready c = finish_idle _ _ _ _ _ _ c.is_ready.ensures (ap not c.if-not-is_ready.true)
 
 pub counts-requires : goal.counts-requires
-counts-requires c = omega (arith, ((let z : let a = c.args in Ready a.line.now a.table.now a.out.now a.at = tested _ _ _ _ _ c.is_ready.ensures c.if-not-is_ready.false in z)).room)
+counts-requires c = omega (arith, ((let z : let a = c.args in Ready a.line.now a.table.now a.out.now a.at = tested _ _ _ _ _ c.is_ready.ensures (ap not c.if-not-is_ready.false) in z)).room)
 
 pub returns-then-held-eq0 : goal.returns-then-held-eq0
-returns-then-held-eq0 c = finish_empty _ _ _ _ _ _ c.is_ready.ensures _ _ _ c.if-not-is_ready.false c.held_in-held.ensures c.if-held-eq0.true c.counts.ensures
+returns-then-held-eq0 c = finish_empty _ _ _ _ _ _ c.is_ready.ensures _ _ _ (ap not c.if-not-is_ready.false) c.held_in-held.ensures c.if-held-eq0.true c.counts.ensures
 
 pub list_line-listed-requires : goal.list_line-listed-requires
-list_line-listed-requires c = let r = (let z : let a = c.args in Ready a.line.now a.table.now a.out.now a.at = tested _ _ _ _ _ c.is_ready.ensures c.if-not-is_ready.false in z) in (omega (arith, c.held_in-held.ensures, held_low c.args.session.held, r.line_length), r.table_length_lem, omega (arith, r.room))
+list_line-listed-requires c = let r = (let z : let a = c.args in Ready a.line.now a.table.now a.out.now a.at = tested _ _ _ _ _ c.is_ready.ensures (ap not c.if-not-is_ready.false) in z) in (omega (arith, c.held_in-held.ensures, held_low c.args.session.held, r.line_length), r.table_length_lem, omega (arith, r.room))
 
 pub counts-requires-2 : goal.counts-requires-2
-counts-requires-2 c = let r = (let z : let a = c.args in Ready a.line.now a.table.now a.out.now a.at = tested _ _ _ _ _ c.is_ready.ensures c.if-not-is_ready.false in z) in let l : length c.list_line-listed.new.out ≡ length c.args.out.now = search rules in omega (arith, c.list_line-listed.ensures.within, l, r.room)
+counts-requires-2 c = let r = (let z : let a = c.args in Ready a.line.now a.table.now a.out.now a.at = tested _ _ _ _ _ c.is_ready.ensures (ap not c.if-not-is_ready.false) in z) in let l : length c.list_line-listed.new.out ≡ length c.args.out.now = search rules in omega (arith, c.list_line-listed.ensures.within, l, r.room)
 
 pub returns : goal.returns
-returns c = finish_held _ _ _ _ _ _ c.is_ready.ensures _ _ _ c.list_line-listed.result _ c.if-not-is_ready.false c.counts-2.ensures _ c.held_in-held.ensures c.if-held-eq0.false c.list_line-listed.ensures
+returns c = finish_held _ _ _ _ _ _ c.is_ready.ensures _ _ _ c.list_line-listed.result _ (ap not c.if-not-is_ready.false) c.counts-2.ensures _ c.held_in-held.ensures c.if-held-eq0.false c.list_line-listed.ensures
