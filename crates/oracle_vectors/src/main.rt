@@ -11,7 +11,8 @@ mod list_integrals;
 mod list_output;
 mod list_parameters;
 
-ghost use Rattle.std.specs.Prelude.{◌≤◌, ◌≡◌, IfOk, length};
+ghost use Rattle.std.specs.Prelude.{◌≡◌, ◌<◌, ◌≤◌, IfOk, length, take};
+ghost use Rattle.std.specs.Io.KnownBytes.{Consumes, IsAtEnd};
 
 use line::{Line, MOST_BYTES};
 use list_deck::{Carried, Compared};
@@ -53,7 +54,9 @@ fn compare(list: List, line: &Line, before: Carried, table: &mut [f32]) -> Compa
 
 // Reads until buf is full or the file ends, and returns how many bytes it put at the start of buf.
 fn read_full<F: Read>(file: &mut F, buf: &mut [u8]) -> io::Result<usize>
-    ensures { IfOk result (λ n. n ≤ length buf.new) }
+    ensures bound { IfOk result (λ n. n ≤ length buf.new) }
+    ensures bytes { IfOk result (λ n. Consumes (F.remaining file.old) (F.remaining file.new) (take n buf.new)) }
+    ensures end { IfOk result (λ n. n < length buf.new → IsAtEnd (F.remaining file.new)) }
 {
     let mut done: usize = 0;
     while done < buf.len() {
