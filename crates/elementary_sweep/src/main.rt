@@ -1,9 +1,12 @@
 // Folds each elementary function's answers over blocks of 65,536 bit patterns and prints a line per
 // group of blocks, as the oracle's `sweep` does (oracle/README.md). The arguments: first function,
 // last function, first block, number of blocks, blocks in a group.
+#![tactic(auto)]
+
 ghost use Rattle.std.specs.Prelude.{◌≡◌, ◌≤◌, ◌<◌, min};
 
-use libc::STDOUT_FILENO;
+use std::env::Env;
+use std::io;
 
 // The fold of the answers on the patterns of one block, on from start. The modulus is a prime.
 fn fold_block(function: u32, block: u32, start: u64) -> u64
@@ -33,26 +36,25 @@ fn fold(function: u32, first: u32, end: u32) -> u64
 }
 
 // n with zeros in front: least 10 for two digits, 10000 for five.
-fn print_padded(n: u32, least: u32) {
+fn print_padded(rt: &impl Print, n: u32, least: u32) -> io::Result<()> {
     let mut bound = least;
     while bound > 1 {
         if n < bound {
-            io::write_all(STDOUT_FILENO, b"0");
+            print!(rt; "0")?;
         }
         bound = bound / 10;
     }
-    io::print_decimal(STDOUT_FILENO, n as u64);
-    io::write_all(STDOUT_FILENO, b" ");
+    print!(rt; "{n} ")
 }
 
-fn print_group(function: u32, first: u32, end: u32)
+fn print_group(rt: &impl Print, function: u32, first: u32, end: u32) -> io::Result<()>
     requires { (first ≤ end) × (end ≤ 65536) }
 {
-    print_padded(function, 10);
-    print_padded(first, 10000);
-    print_padded(end - first, 10000);
-    io::print_hex(STDOUT_FILENO, fold(function, first, end), 8);
-    io::write_all(STDOUT_FILENO, b"\n");
+    print_padded(rt, function, 10)?;
+    print_padded(rt, first, 10000)?;
+    print_padded(rt, end - first, 10000)?;
+    let h = fold(function, first, end);
+    println!(rt; "{h:08x}")
 }
 
 fn least(a: u32, b: u32) -> u32
@@ -61,23 +63,25 @@ fn least(a: u32, b: u32) -> u32
     if a < b { a } else { b }
 }
 
-fn print_groups(function: u32, first: u32, end: u32, group: u32)
+fn print_groups(rt: &impl Print, function: u32, first: u32, end: u32, group: u32) -> io::Result<()>
     requires { (end ≤ 65536) × (group ≤ 65536) × (0 < group) }
 {
     let mut from = first;
     while from < end {
         let to = least(from + group, end);
-        print_group(function, from, to);
+        print_group(rt, function, from, to)?;
         from = from + group;
     }
+    Ok(())
 }
 
-// A decimal number of at most five digits; any other byte counts as a digit 0.
-fn number(i: usize) -> u32
+// A decimal number of at most five digits; any other byte counts as a digit 0. One that is missing
+// or longer is 0.
+fn number(env: &impl Env, i: usize) -> u32
     ensures { result ≤ 65536 }
 {
     let mut word = [0u8; 5];
-    let n = os::arg(i, &mut word);
+    let n = env.arg(i, &mut word).unwrap_or(0);
     let mut value: u32 = 0;
     let mut k: usize = 0;
     while k < n {
@@ -87,17 +91,18 @@ fn number(i: usize) -> u32
     value
 }
 
-fn main() {
-    let last = number(2);
-    let first = number(3);
-    let end = least(first + number(4), 65536);
-    let group = number(5);
+fn main(rt: HostRuntime) -> io::Result<()> {
+    let last = number(&rt, 2);
+    let first = number(&rt, 3);
+    let end = least(first + number(&rt, 4), 65536);
+    let group = number(&rt, 5);
     if group == 0 {
-        return;
+        return Ok(());
     }
-    let mut function = number(1);
+    let mut function = number(&rt, 1);
     while function <= last {
-        print_groups(function, first, end, group);
+        print_groups(&rt, function, first, end, group)?;
         function += 1;
     }
+    Ok(())
 }

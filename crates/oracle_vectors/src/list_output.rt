@@ -37,7 +37,7 @@ fn is_text(line: &Line, out: &[u8]) -> bool
 {
     let all: &[u8] = line;
     let end = 32 + out.len();
-    check::same(out, &all[32..end])
+    out == &all[32..end]
 }
 
 // A field of the number, or of the f32's hundredths.

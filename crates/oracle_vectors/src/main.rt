@@ -1,5 +1,7 @@
 // Replays the oracle's fixed lists (oracle/README.md), each a file in data/, and prints for each how
 // many lines were compared and how many differ.
+#![tactic(auto)]
+
 mod line;
 mod list_antenna;
 mod list_deck;
@@ -9,11 +11,14 @@ mod list_integrals;
 mod list_output;
 mod list_parameters;
 
-ghost use Rattle.std.specs.Prelude.{◌≤◌, ◌≡◌, length};
+ghost use Rattle.std.specs.Prelude.{◌≡◌, ◌<◌, ◌≤◌, IfOk, length, take};
+ghost use Rattle.std.specs.Io.KnownBytes.{Consumes, IsAtEnd};
 
-use libc::STDOUT_FILENO;
 use line::{Line, MOST_BYTES};
 use list_deck::{Carried, Compared};
+use std::io::Read;
+use std::rt::Files;
+use std::{fs, io};
 use table::TABLE_LENGTH;
 use vectors::{MOST_LINES, Tally};
 
@@ -47,19 +52,38 @@ fn compare(list: List, line: &Line, before: Carried, table: &mut [f32]) -> Compa
     }
 }
 
+// Reads until buf is full or the file ends, and returns how many bytes it put at the start of buf.
+fn read_full<F: Read>(file: &mut F, buf: &mut [u8]) -> io::Result<usize>
+    ensures bound { IfOk result (λ n. n ≤ length buf.new) }
+    ensures bytes { IfOk result (λ n. Consumes (F.remaining file.old) (F.remaining file.new) (take n buf.new)) }
+    ensures end { IfOk result (λ n. n < length buf.new → IsAtEnd (F.remaining file.new)) }
+{
+    let mut done: usize = 0;
+    while done < buf.len() {
+        let n = file.read(&mut buf[done..])?;
+        if n == 0 {
+            break;
+        }
+        done += n;
+    }
+    Ok(done)
+}
+
+const NONE: Tally = Tally {
+    compared: 0,
+    differ: 0,
+};
+
 // A last line that is cut off differs.
-fn replay(list: List, bytes: usize, fd: i32) -> Tally
+fn replay<F: Read>(list: List, bytes: usize, file: &mut F) -> io::Result<Tally>
     requires { bytes ≤ 830 }
 {
     let mut table = [0.0f32; TABLE_LENGTH];
     let mut carried = list_deck::start();
-    let mut tally = Tally {
-        compared: 0,
-        differ: 0,
-    };
+    let mut tally = NONE;
     while tally.compared < MOST_LINES {
         let mut line = [0u8; MOST_BYTES];
-        let n = io::read_full(fd, &mut line[..bytes]);
+        let n = read_full(file, &mut line[..bytes])?;
         if n == 0 {
             break;
         }
@@ -68,41 +92,39 @@ fn replay(list: List, bytes: usize, fd: i32) -> Tally
         carried = left;
         tally = vectors::counted(tally, c.equal & (n == bytes));
     }
-    tally
+    Ok(tally)
 }
 
-fn print_tally(name: &[u8], tally: Tally) {
-    io::write_all(STDOUT_FILENO, name);
-    io::write_all(STDOUT_FILENO, b" ");
-    io::print_decimal(STDOUT_FILENO, tally.compared);
-    io::write_all(STDOUT_FILENO, b" compared, ");
-    io::print_decimal(STDOUT_FILENO, tally.differ);
-    io::write_all(STDOUT_FILENO, b" differ\n");
+fn print_tally(rt: &impl Print, name: &str, tally: Tally) -> io::Result<()> {
+    let Tally { compared, differ } = tally;
+    println!(rt; "{name} {compared} compared, {differ} differ")
 }
 
-// The list's file has its name. A file that is missing has no lines.
-fn replay_file(list: List, name: &[u8], bytes: usize)
+// The list's file has its name. A file that is missing, or that can't be opened, has no lines.
+fn replay_file(rt: &(impl Files + Print), list: List, name: &str, bytes: usize) -> io::Result<()>
     requires { bytes ≤ 830 }
 {
-    let fd = os::open_read(name);
-    print_tally(name, replay(list, bytes, fd));
-    libc::close(fd);
+    let tally = match fs::open(rt, name) {
+        Ok(mut file) => replay(list, bytes, &mut file)?,
+        Err(_) => NONE,
+    };
+    print_tally(rt, name, tally)
 }
 
-fn main() {
-    replay_file(List::Elementary, b"elementary", 21);
-    replay_file(List::Integrals, b"integrals", 30);
-    replay_file(List::Parameters, b"parameters", 272);
-    replay_file(List::Output, b"output", 57);
-    replay_file(List::Gains, b"gains", 158);
-    replay_file(List::Antenna, b"antenna", 92);
-    replay_file(List::Deck, b"deck", MOST_BYTES);
+fn main(rt: HostRuntime) -> io::Result<()> {
+    replay_file(&rt, List::Elementary, "elementary", 21)?;
+    replay_file(&rt, List::Integrals, "integrals", 30)?;
+    replay_file(&rt, List::Parameters, "parameters", 272)?;
+    replay_file(&rt, List::Output, "output", 57)?;
+    replay_file(&rt, List::Gains, "gains", 158)?;
+    replay_file(&rt, List::Antenna, "antenna", 92)?;
+    replay_file(&rt, List::Deck, "deck", MOST_BYTES)?;
     // Every line of these is wrong in one place.
-    replay_file(List::Elementary, b"wrong_elementary", 21);
-    replay_file(List::Integrals, b"wrong_integrals", 30);
-    replay_file(List::Parameters, b"wrong_parameters", 272);
-    replay_file(List::Output, b"wrong_output", 57);
-    replay_file(List::Gains, b"wrong_gains", 158);
-    replay_file(List::Antenna, b"wrong_antenna", 92);
-    replay_file(List::Deck, b"wrong_deck", MOST_BYTES);
+    replay_file(&rt, List::Elementary, "wrong_elementary", 21)?;
+    replay_file(&rt, List::Integrals, "wrong_integrals", 30)?;
+    replay_file(&rt, List::Parameters, "wrong_parameters", 272)?;
+    replay_file(&rt, List::Output, "wrong_output", 57)?;
+    replay_file(&rt, List::Gains, "wrong_gains", 158)?;
+    replay_file(&rt, List::Antenna, "wrong_antenna", 92)?;
+    replay_file(&rt, List::Deck, "wrong_deck", MOST_BYTES)
 }
