@@ -7,7 +7,7 @@ use Rattle.independence.specs.EntryContracts.{EntryDone}
 use Rattle.deck_state.specs.declared.Deck.{Deck}
 use Rattle.deck.specs.declared.run.CardAnswer.{CardAnswer}
 use Rattle.deck.specs.Antenna.{the_antenna}
-use Rattle.deck.specs.Run.{count_limit, deck_of, state_of, answer_on}
+use Rattle.deck.specs.Run.{count_limit, state_of, answer_on}
 
 -- the parts that a run is done by, and the answer whole
 pub answered : (deck : Deck) (e : Entry the_antenna) (t : List Float) (r : CardAnswer)

@@ -1,5 +1,4 @@
 use mathlib.Core.Path.{refl}
-use Prim.Native.Nat.{◌-◌}
 use native.Mathlib.Omega.{arith}
 use Rattle.deck.proofs.Elevations.{columns_start, columns_step, columns_done}
 use Rattle.deck.proofs.columns.all_columns.Goals as goal
