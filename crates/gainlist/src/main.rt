@@ -7,7 +7,7 @@ ghost use Rattle.listing.specs.Sizes.{most_text};
 ghost use Rattle.listing.specs.Ready.{Ready};
 
 use listing::{MOST_HELD, ROOM, Session};
-use std::io::{Read, Stderr, Stdin, Stdout, Write};
+use std::io::{ErrorKind, Read, Stderr, Stdin, Stdout, Write};
 use std::process::ExitCode;
 use table::TABLE_LENGTH;
 
@@ -20,7 +20,7 @@ struct State {
     session: Session,
     at: usize,
     going: bool,
-    failed: bool,
+    failed: Option<ErrorKind>,
 }
 
 fn flush(mut to: Stdout, state: State, out: &[u8]) -> State
@@ -28,12 +28,15 @@ fn flush(mut to: Stdout, state: State, out: &[u8]) -> State
     ensures { result.at ≤ 0 }
 {
     let State { session, at, .. } = state;
-    let written = to.write_all(&out[..at]).is_ok();
+    let failed = match to.write_all(&out[..at]) {
+        Ok(()) => None,
+        Err(e) => Some(e.kind()),
+    };
     State {
         session,
         at: 0,
-        going: written,
-        failed: !written,
+        going: failed.is_none(),
+        failed,
     }
 }
 
@@ -78,7 +81,7 @@ fn list_piece(
             session: next,
             at: r.at,
             going: true,
-            failed: false,
+            failed: None,
         };
         s = flush_full(to, stepped, out);
         used = used + r.used;
@@ -100,8 +103,8 @@ fn turn(
     ensures { result.at + most_text ≤ length out.old }
 {
     let (n, failed) = match from.read(input) {
-        Ok(n) => (n, false),
-        Err(_) => (0, true),
+        Ok(n) => (n, None),
+        Err(e) => (0, Some(e.kind())),
     };
     if n == 0 {
         let State { session, at, .. } = state;
@@ -119,7 +122,11 @@ fn turn(
     listed
 }
 
-fn report_failure(mut errors: Stderr) -> ExitCode {
+// Where nobody reads on it says nothing, and ends with the status of a program that SIGPIPE ended.
+fn report_failure(mut errors: Stderr, kind: ErrorKind) -> ExitCode {
+    if kind == ErrorKind::BrokenPipe {
+        return ExitCode::from(141);
+    }
     // There is nobody to tell where this fails too.
     let _ = errors.write_all(b"gainlist: a read or write failed\n");
     ExitCode::FAILURE
@@ -128,10 +135,10 @@ fn report_failure(mut errors: Stderr) -> ExitCode {
 fn write_last(mut to: Stdout, errors: Stderr, out: &[u8], end: usize) -> ExitCode
     requires { end ≤ length out.now }
 {
-    if to.write_all(&out[..end]).is_err() {
-        return report_failure(errors);
+    match to.write_all(&out[..end]) {
+        Ok(()) => ExitCode::SUCCESS,
+        Err(e) => report_failure(errors, e.kind()),
     }
-    ExitCode::SUCCESS
 }
 
 fn run(
@@ -149,7 +156,7 @@ fn run(
         session: listing::start(),
         at: 0,
         going: true,
-        failed: false,
+        failed: None,
     };
     let mut turns = u64::MAX;
     let mut going = true;
@@ -165,8 +172,8 @@ fn run(
         ..
     } = state;
     // The counts of a part would look like those of the whole.
-    if failed {
-        return report_failure(rt.stderr());
+    if let Some(kind) = failed {
+        return report_failure(rt.stderr(), kind);
     }
     let end = listing::finish(session, line, table, out, at);
     write_last(to, rt.stderr(), out, end)
