@@ -1,6 +1,6 @@
 use Rattle.listing_examples.proofs.Loop.{within_input}
 use lib.ListN.{length}
-use Prim.Native.Nat.{◌+◌, ◌-◌, ◌≤◌}
+use Prim.Native.Nat.{◌+◌, ◌≤◌}
 use native.Mathlib.Omega.{arith}
 use borrow.Author.Rules.{rules}
 use Rattle.listing_examples.proofs.printing.print_listing.Goals as goal
