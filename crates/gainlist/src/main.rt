@@ -1,12 +1,18 @@
 // Cards from standard input, their listing to standard output: what is written is what listing's
 // `step` and `finish` give, in turn.
+#![tactic(auto)]
+
 ghost use Rattle.std.specs.Prelude.{◌+◌, ◌≤◌, length};
 ghost use Rattle.listing.specs.Sizes.{most_text};
 ghost use Rattle.listing.specs.Ready.{Ready};
 
-use libc::{STDERR_FILENO, STDIN_FILENO, STDOUT_FILENO};
 use listing::{MOST_HELD, ROOM, Session};
+use std::io::{ErrorKind, Read, Stderr, Stdin, Stdout, Write};
+use std::process::ExitCode;
 use table::TABLE_LENGTH;
+
+// Of the input that is read at once, and of the text that is written at once.
+const PIECE: usize = 65536;
 
 // Text not written yet ends at `at`. The run ends with the input, or where a read or write failed.
 #[derive(Clone, Copy)]
@@ -14,36 +20,40 @@ struct State {
     session: Session,
     at: usize,
     going: bool,
-    failed: bool,
+    failed: Option<ErrorKind>,
 }
 
-fn flush(state: State, out: &[u8]) -> State
+fn flush(mut to: Stdout, state: State, out: &[u8]) -> State
     requires { state.at ≤ length out.now }
     ensures { result.at ≤ 0 }
 {
     let State { session, at, .. } = state;
-    let written = io::write_all(STDOUT_FILENO, &out[..at]);
+    let failed = match to.write_all(&out[..at]) {
+        Ok(()) => None,
+        Err(e) => Some(e.kind()),
+    };
     State {
         session,
         at: 0,
-        going: written,
-        failed: !written,
+        going: failed.is_none(),
+        failed,
     }
 }
 
 // So that the next step has room.
-fn flush_full(state: State, out: &[u8]) -> State
+fn flush_full(to: Stdout, state: State, out: &[u8]) -> State
     requires { (most_text ≤ length out.now) × (state.at ≤ length out.now) }
     ensures { result.at + most_text ≤ length out.now }
 {
     if state.at <= out.len() - ROOM {
         return state;
     }
-    flush(state, out)
+    flush(to, state, out)
 }
 
 // The whole piece: lines that end in it are listed, the rest is held.
 fn list_piece(
+    to: Stdout,
     state: State,
     line: &mut [u8],
     piece: &[u8],
@@ -71,63 +81,87 @@ fn list_piece(
             session: next,
             at: r.at,
             going: true,
-            failed: false,
+            failed: None,
         };
-        s = flush_full(stepped, out);
+        s = flush_full(to, stepped, out);
         used = used + r.used;
     }
     s
 }
 
 // Reads once. Text is written before the next read, so that who sends cards one by one is answered.
-fn turn(state: State, line: &mut [u8], input: &mut [u8], table: &mut [f32], out: &mut [u8]) -> State
+fn turn(
+    mut from: Stdin,
+    to: Stdout,
+    state: State,
+    line: &mut [u8],
+    input: &mut [u8],
+    table: &mut [f32],
+    out: &mut [u8],
+) -> State
     requires { Ready line.old table.old out.old state.at }
     ensures { result.at + most_text ≤ length out.old }
 {
-    let got = libc::read(STDIN_FILENO, input);
-    if got <= 0 {
+    let (n, failed) = match from.read(input) {
+        Ok(n) => (n, None),
+        Err(e) => (0, Some(e.kind())),
+    };
+    if n == 0 {
         let State { session, at, .. } = state;
         return State {
             session,
             at,
             going: false,
-            failed: got < 0,
+            failed,
         };
     }
-    let n = io::count(got, input);
-    let listed = list_piece(state, line, &input[..n], table, out);
+    let listed = list_piece(to, state, line, &input[..n], table, out);
     if listed.going {
-        return flush(listed, out);
+        return flush(to, listed, out);
     }
     listed
 }
 
-// A program here ends with status 0; the script ./gainlist ends with 1 where this was written.
-fn report_failure() {
-    io::write_all(STDERR_FILENO, b"gainlist: a read or write failed\n");
+// Where nobody reads on it says nothing, and ends with the status of a program that SIGPIPE ended.
+fn report_failure(mut errors: Stderr, kind: ErrorKind) -> ExitCode {
+    if kind == ErrorKind::BrokenPipe {
+        return ExitCode::from(141);
+    }
+    // There is nobody to tell where this fails too.
+    let _ = errors.write_all(b"gainlist: a read or write failed\n");
+    ExitCode::FAILURE
 }
 
-fn write_last(out: &[u8], end: usize)
+fn write_last(mut to: Stdout, errors: Stderr, out: &[u8], end: usize) -> ExitCode
     requires { end ≤ length out.now }
 {
-    if !io::write_all(STDOUT_FILENO, &out[..end]) {
-        report_failure();
+    match to.write_all(&out[..end]) {
+        Ok(()) => ExitCode::SUCCESS,
+        Err(e) => report_failure(errors, e.kind()),
     }
 }
 
-fn run(line: &mut [u8], input: &mut [u8], table: &mut [f32], out: &mut [u8])
+fn run(
+    rt: &HostRuntime,
+    line: &mut [u8],
+    input: &mut [u8],
+    table: &mut [f32],
+    out: &mut [u8],
+) -> ExitCode
     requires { Ready line.old table.old out.old 0 }
 {
+    let from = rt.stdin();
+    let to = rt.stdout();
     let mut state = State {
         session: listing::start(),
         at: 0,
         going: true,
-        failed: false,
+        failed: None,
     };
     let mut turns = u64::MAX;
     let mut going = true;
     while turns > 0 && going {
-        state = turn(state, line, input, table, out);
+        state = turn(from, to, state, line, input, table, out);
         going = state.going;
         turns -= 1;
     }
@@ -138,18 +172,17 @@ fn run(line: &mut [u8], input: &mut [u8], table: &mut [f32], out: &mut [u8])
         ..
     } = state;
     // The counts of a part would look like those of the whole.
-    if failed {
-        report_failure();
-        return;
+    if let Some(kind) = failed {
+        return report_failure(rt.stderr(), kind);
     }
     let end = listing::finish(session, line, table, out, at);
-    write_last(out, end);
+    write_last(to, rt.stderr(), out, end)
 }
 
-fn main() {
+fn main(rt: HostRuntime) -> ExitCode {
     let mut line = [0u8; MOST_HELD];
     let mut table = [0.0f32; TABLE_LENGTH];
-    let mut input = io::large_buffer();
-    let mut out = io::large_buffer();
-    run(&mut line, &mut input, &mut table, &mut out);
+    let mut input = [0u8; PIECE];
+    let mut out = [0u8; PIECE];
+    run(&rt, &mut line, &mut input, &mut table, &mut out)
 }

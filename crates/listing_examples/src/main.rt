@@ -1,9 +1,15 @@
 // The listings of small inputs: in pieces of several sizes, on a fresh deck and on nearly full ones.
+#![tactic(auto)]
+
 mod printing;
 
 use deck::Deck;
 use listing::{MOST_HELD, Session};
+use std::io::{Result, Stdout};
 use table::TABLE_LENGTH;
+
+// Of a listing's text, as one call writes it.
+const TEXT: usize = 4096;
 
 // A deck that has refused so many cards.
 fn session_after(refused: u32) -> Session {
@@ -20,33 +26,37 @@ fn session_after(refused: u32) -> Session {
 }
 
 // One listing, in pieces of `size` bytes.
-fn list(start: Session, input: &[u8], size: usize) {
+fn list(to: Stdout, start: Session, input: &[u8], size: usize) -> Result<()> {
     let mut line = [0u8; MOST_HELD];
     let mut table = [0.0f32; TABLE_LENGTH];
-    let mut out = io::buffer();
-    printing::print_listing(start, input, size, &mut line, &mut table, &mut out);
+    let mut out = [0u8; TEXT];
+    printing::print_listing(to, start, input, size, &mut line, &mut table, &mut out)
 }
 
-fn list_all(cards: &[u8]) {
-    printing::print(b"no input\n");
-    list(listing::start(), b"", 1);
-    printing::print(b"two line feeds, then a byte\n");
-    list(listing::start(), b"\n\nx", 1);
+fn list_all(to: Stdout, cards: &[u8]) -> Result<()> {
+    printing::print(to, b"no input\n")?;
+    list(to, listing::start(), b"", 1)?;
+    printing::print(to, b"two line feeds, then a byte\n")?;
+    list(to, listing::start(), b"\n\nx", 1)?;
     printing::print(
+        to,
         b"two cards, the last without its line feed, in pieces of 1, 50 and 4,096 bytes\n",
-    );
-    list(listing::start(), cards, 1);
-    list(listing::start(), cards, 50);
-    list(listing::start(), cards, 4096);
-    printing::print(b"after 999,998 and 999,999 refused cards, and 9,999,999\n");
-    list(session_after(999998), cards, 50);
-    list(session_after(999999), cards, 50);
-    list(session_after(9999999), cards, 50);
+    )?;
+    list(to, listing::start(), cards, 1)?;
+    list(to, listing::start(), cards, 50)?;
+    list(to, listing::start(), cards, 4096)?;
+    printing::print(
+        to,
+        b"after 999,998 and 999,999 refused cards, and 9,999,999\n",
+    )?;
+    list(to, session_after(999998), cards, 50)?;
+    list(to, session_after(999999), cards, 50)?;
+    list(to, session_after(9999999), cards, 50)
 }
 
-fn main() {
+fn main(rt: HostRuntime) -> Result<()> {
     // Document 01's two cards.
     let cards: &[u8] =
         b"  2  2  3     0.0000     4.0000     0.0100    -0.5000     0.0000     0.0000     0.0000     0.0000     0.0000     0.0000\n  1  2  3     0.0000     4.0000     0.0100     0.0000   100.0000    20.0000     0.0000     0.0000     0.0000     0.0000";
-    list_all(cards);
+    list_all(rt.stdout(), cards)
 }

@@ -1,11 +1,11 @@
 // The texts of a listing's calls, one after another, to standard output.
 ghost use Rattle.std.specs.Prelude.{◌≤◌};
 
-use libc::STDOUT_FILENO;
 use listing::Session;
+use std::io::{Result, Stdout, Write};
 
-pub(crate) fn print(text: &[u8]) {
-    io::write_all(STDOUT_FILENO, text);
+pub(crate) fn print(mut to: Stdout, text: &[u8]) -> Result<()> {
+    to.write_all(text)
 }
 
 // Where the piece of `size` bytes from `from` on ends.
@@ -19,33 +19,35 @@ fn piece_end(from: usize, size: usize, len: usize) -> usize
     len
 }
 
-fn print_start(out: &[u8], end: usize) {
+fn print_start(mut to: Stdout, out: &[u8], end: usize) -> Result<()> {
     if end <= out.len() {
-        io::write_all(STDOUT_FILENO, &out[..end]);
+        to.write_all(&out[..end])?;
     }
+    Ok(())
 }
 
 // Each step takes a byte at least, so there are no more steps than bytes.
 pub(crate) fn print_listing(
+    to: Stdout,
     start: Session,
     input: &[u8],
     size: usize,
     line: &mut [u8],
     table: &mut [f32],
     out: &mut [u8],
-) {
+) -> Result<()> {
     let mut s = start;
     let mut from: usize = 0;
     let mut steps: usize = 0;
     while steps < input.len() {
         let end = piece_end(from, size, input.len());
         let r = listing::step(s, line, &input[from..end], table, out, 0);
-        print_start(out, r.at);
+        print_start(to, out, r.at)?;
         let next = r.session;
         s = next;
         from = from + r.used;
         steps += 1;
     }
     let end = listing::finish(s, line, table, out, 0);
-    print_start(out, end);
+    print_start(to, out, end)
 }

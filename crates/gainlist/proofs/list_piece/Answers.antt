@@ -1,6 +1,5 @@
 use Rattle.gainlist.proofs.Loops.{Advance, advance}
 use Rattle.listing.proofs.Lengths.{SameLengths}
-use Prim.Native.Nat.{◌-◌}
 use mathlib.Core.Path.{◌∙◌}
 use native.Mathlib.Omega.{arith}
 use borrow.Author.Rules.{rules}
@@ -15,20 +14,27 @@ kept : (c : After-step-r) → let l = c.loop-used in SameLengths l.line l.table 
 kept c = search rules
 
 pub flush_full-s-requires : goal.flush_full-s-requires
-flush_full-s-requires c = (search rules, omega (arith, (advanced c.before.before.before.before.before.before.before).ranges, (kept c.before.before.before.before.before.before.before).out_same))
+flush_full-s-requires c =
+    let s = (goal.at.flush_full-s-requires c).After-step-r in
+    (search rules, omega (arith, (advanced s).fits, (kept s).out_same))
 
 pub overflow_add-used : goal.overflow_add-used
-overflow_add-used c = omega (arith, (advanced c.before.before.before.before.before.before.before.before.before).within, c.well_formed)
+overflow_add-used c =
+    let s = (goal.at.overflow_add-used c).After-step-r in
+    omega (arith, (advanced s).within, s.well_formed)
 
 pub loop-used-smaller : goal.loop-used-smaller
-loop-used-smaller c = let a = advanced c.before.before.before.before.before.before.before.before.before in omega (arith, a.within, a.some)
+loop-used-smaller c =
+    let a = advanced (goal.at.loop-used-smaller c).After-step-r in
+    omega (arith, a.within, a.some)
 
 pub loop-used-preserved : goal.loop-used-preserved
 loop-used-preserved c =
+    let s = (goal.at.loop-used-preserved c).After-step-r in
     let i = c.loop-used.invariant in
-    let k = kept c.before.before.before.before.before.before.before.before.before in
+    let k = kept s in
     record {
       kept = record { line_length = k.line_same ∙ i.kept.line_length; table_length_lem = k.table_same ∙ i.kept.table_length_lem; room = c.flush_full-s.ensures };
-      within = (advanced c.before.before.before.before.before.before.before.before.before).within;
+      within = (advanced s).within;
       lengths = record { line_same = k.line_same ∙ i.lengths.line_same; table_same = k.table_same ∙ i.lengths.table_same; out_same = k.out_same ∙ i.lengths.out_same };
     }

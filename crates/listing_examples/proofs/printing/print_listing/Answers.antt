@@ -1,6 +1,6 @@
 use Rattle.listing_examples.proofs.Loop.{within_input}
 use lib.ListN.{length}
-use Prim.Native.Nat.{◌+◌, ◌-◌, ◌≤◌}
+use Prim.Native.Nat.{◌+◌, ◌≤◌}
 use native.Mathlib.Omega.{arith}
 use borrow.Author.Rules.{rules}
 use Rattle.listing_examples.proofs.printing.print_listing.Goals as goal
@@ -14,11 +14,11 @@ within : (c : After-step-r) → c.loop-steps.from + c.step-r.result.used ≤ len
 within c = within_input _ _ _ _ c.piece_end-end.ensures c.step-r.ensures.within
 
 pub overflow_add-from : goal.overflow_add-from
-overflow_add-from c = omega (arith, within c.before.before.before.before.before.before.before.before.before, c.well_formed)
+overflow_add-from c = omega (arith, within (goal.at.overflow_add-from c).After-step-r, c.well_formed)
 
 pub overflow_add-steps : goal.overflow_add-steps
 overflow_add-steps c = omega (arith, c.loop-steps-test.true, c.well_formed)
 
 pub loop-steps-preserved : goal.loop-steps-preserved
 loop-steps-preserved c =
-    record { within = within c.before.before.before.before.before.before.before.before.before; lengths = search rules }
+    record { within = within (goal.at.loop-steps-preserved c).After-step-r; lengths = search rules }
