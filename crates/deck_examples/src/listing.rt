@@ -6,16 +6,17 @@ use crate::text::{print, print_hundredths, print_narrow};
 use cards::Fields;
 use deck::Deck;
 use parameters::Model;
+use std::io;
 use table::{COLUMNS, GAINS};
 
 // MHz, efficiency and ground gain.
-fn print_row(row: usize, mhz: u32, table: &[f32])
+fn print_row(rt: &impl Print, row: usize, mhz: u32, table: &[f32]) -> io::Result<()>
     requires { (length table.now ≡ 2760) × (row < 30) }
 {
-    print_narrow(mhz);
-    print_hundredths(table[GAINS + row]);
-    print_hundredths(table[row * COLUMNS]);
-    print(b"\n");
+    print_narrow(rt, mhz)?;
+    print_hundredths(rt, table[GAINS + row])?;
+    print_hundredths(rt, table[row * COLUMNS])?;
+    print(rt, b"\n")
 }
 
 fn type_one() -> Fields {
@@ -41,31 +42,38 @@ fn type_two() -> Fields {
 }
 
 // A card of 2 to 3 MHz.
-fn print_card(kop: u32, fields: Fields, deck: Deck, table: &mut [f32]) -> Deck
+fn print_card(
+    rt: &impl Print,
+    kop: u32,
+    fields: Fields,
+    deck: Deck,
+    table: &mut [f32],
+) -> io::Result<Deck>
     requires { length table.old ≡ 2760 }
 {
     let answer = deck::run_card(deck, fields, table);
-    print_narrow(kop);
-    print_narrow(answer.verdict);
-    print(b"\n");
-    print_row(1, 2, table);
-    print_row(2, 3, table);
-    answer.deck
+    print_narrow(rt, kop)?;
+    print_narrow(rt, answer.verdict)?;
+    print(rt, b"\n")?;
+    print_row(rt, 1, 2, table)?;
+    print_row(rt, 2, 3, table)?;
+    Ok(answer.deck)
 }
 
-fn print_swapped(table: &mut [f32])
+fn print_swapped(rt: &impl Print, table: &mut [f32]) -> io::Result<()>
     requires { length table.old ≡ 2760 }
 {
-    let left = print_card(1, type_one(), deck::fresh(), table);
-    print_card(2, type_two(), left, table);
+    let left = print_card(rt, 1, type_one(), deck::fresh(), table)?;
+    print_card(rt, 2, type_two(), left, table)?;
+    Ok(())
 }
 
-pub(crate) fn print_listings(table: &mut [f32])
+pub(crate) fn print_listings(rt: &impl Print, table: &mut [f32]) -> io::Result<()>
     requires { length table.old ≡ 2760 }
 {
-    print(b"Document 01's cards of types 2 and 1\n");
-    let left = print_card(2, type_two(), deck::fresh(), table);
-    print_card(1, type_one(), left, table);
-    print(b"Swapped\n");
-    print_swapped(table);
+    print(rt, b"Document 01's cards of types 2 and 1\n")?;
+    let left = print_card(rt, 2, type_two(), deck::fresh(), table)?;
+    print_card(rt, 1, type_one(), left, table)?;
+    print(rt, b"Swapped\n")?;
+    print_swapped(rt, table)
 }

@@ -4,6 +4,7 @@ ghost use Rattle.std.specs.Prelude.{◌≡◌, length};
 use crate::example_cards::rhombic;
 use crate::text::{print, print_hundredths, print_narrow, print_number};
 use antenna::Lookup;
+use std::io;
 use table::{COLUMNS, GAINS, TABLE_LENGTH};
 
 // What a card's lookup takes beside the table.
@@ -22,40 +23,47 @@ fn range_of(first: i32, last: i32, verdict: u32) -> CardRange {
     }
 }
 
-fn print_answer(number: u32, gain: f32, efficiency: f32) {
-    print_narrow(number);
-    print_hundredths(gain);
-    print_hundredths(efficiency);
+fn print_answer(rt: &impl Print, number: u32, gain: f32, efficiency: f32) -> io::Result<()> {
+    print_narrow(rt, number)?;
+    print_hundredths(rt, gain)?;
+    print_hundredths(rt, efficiency)
 }
 
-fn print_found(found: Lookup) {
+fn print_found(rt: &impl Print, found: Lookup) -> io::Result<()> {
     match found {
-        Lookup::Accepted(v) => print_answer(0, v.gain, v.efficiency),
-        Lookup::Refused(number) => print_answer(number, 0.0, 0.0),
+        Lookup::Accepted(v) => print_answer(rt, 0, v.gain, v.efficiency),
+        Lookup::Refused(number) => print_answer(rt, number, 0.0, 0.0),
     }
 }
 
 // Minus 0 has the bits 2147483648.
-fn print_bits(x: f32) {
-    print(b" ");
-    print_number(vectors::bits(x) as u64);
+fn print_bits(rt: &impl Print, x: f32) -> io::Result<()> {
+    print(rt, b" ")?;
+    print_number(rt, vectors::bits(x) as u64)
 }
 
-fn print_bits_of(found: Lookup) {
+fn print_bits_of(rt: &impl Print, found: Lookup) -> io::Result<()> {
     if let Lookup::Accepted(v) = found {
-        print_bits(v.gain);
-        print_bits(v.efficiency);
+        print_bits(rt, v.gain)?;
+        print_bits(rt, v.efficiency)?;
     }
+    Ok(())
 }
 
-fn print_lookup(card: CardRange, table: &[f32], mhz: f32, elevation: f32) {
+fn print_lookup(
+    rt: &impl Print,
+    card: CardRange,
+    table: &[f32],
+    mhz: f32,
+    elevation: f32,
+) -> io::Result<()> {
     let found = antenna::card_lookup(card.first, card.last, card.verdict, table, mhz, elevation);
-    print_hundredths(mhz);
-    print_found(found);
-    print_found(antenna::gain_lookup(table, mhz, elevation));
-    print_bits(mhz);
-    print_bits_of(found);
-    print(b"\n");
+    print_hundredths(rt, mhz)?;
+    print_found(rt, found)?;
+    print_found(rt, antenna::gain_lookup(table, mhz, elevation))?;
+    print_bits(rt, mhz)?;
+    print_bits_of(rt, found)?;
+    print(rt, b"\n")
 }
 
 const ALL: usize = 13;
@@ -79,12 +87,13 @@ fn mhz_at(k: usize) -> f32 {
     }
 }
 
-fn print_range(card: CardRange, table: &[f32], elevation: f32) {
+fn print_range(rt: &impl Print, card: CardRange, table: &[f32], elevation: f32) -> io::Result<()> {
     let mut k: usize = 0;
     while k < ALL {
-        print_lookup(card, table, mhz_at(k), elevation);
+        print_lookup(rt, card, table, mhz_at(k), elevation)?;
         k += 1;
     }
+    Ok(())
 }
 
 const OTHERS: usize = 6;
@@ -100,16 +109,17 @@ fn other_at(k: usize) -> CardRange {
     }
 }
 
-fn print_others(table: &[f32]) {
+fn print_others(rt: &impl Print, table: &[f32]) -> io::Result<()> {
     let mut k: usize = 0;
     while k < OTHERS {
-        print_lookup(other_at(k), table, 12.5, 0.3);
+        print_lookup(rt, other_at(k), table, 12.5, 0.3)?;
         k += 1;
     }
+    Ok(())
 }
 
 // Rows 2 and 12 hold minus 0 on the ground and as efficiency.
-fn print_beside_infinities() {
+fn print_beside_infinities(rt: &impl Print) -> io::Result<()> {
     let infinity: f32 = 1.0 / 0.0;
     let mut table = [infinity; TABLE_LENGTH];
     table[COLUMNS] = -0.0;
@@ -118,7 +128,7 @@ fn print_beside_infinities() {
     table[11 * COLUMNS] = -0.0;
     table[11 * COLUMNS + 1] = -1.0;
     table[GAINS + 11] = -0.0;
-    print_range(range_of(2, 12, 0), &table, 0.0);
+    print_range(rt, range_of(2, 12, 0), &table, 0.0)
 }
 
 fn fill(table: &mut [f32]) -> u32 {
@@ -126,18 +136,23 @@ fn fill(table: &mut [f32]) -> u32 {
     answer.verdict
 }
 
-pub(crate) fn print_lookups(table: &mut [f32])
+pub(crate) fn print_lookups(rt: &impl Print, table: &mut [f32]) -> io::Result<()>
     requires { length table.old ≡ 2760 }
 {
     print(
+        rt,
         b"A rhombic of 2 to 12 MHz: MHz; refusal, gain and efficiency by its range, and by gain_lookup; bits\n",
-    );
+    )?;
     let verdict = fill(table);
-    print_range(range_of(2, 12, verdict), table, 0.3);
+    print_range(rt, range_of(2, 12, verdict), table, 0.3)?;
     print(
+        rt,
         b"Its table by 7 to 7 MHz, by a refused card twice, by 12 to 2, 2 to 31 and 0 to 12 MHz\n",
-    );
-    print_others(table);
-    print(b"Rows 2 and 12 between rows of infinities, on the ground\n");
-    print_beside_infinities();
+    )?;
+    print_others(rt, table)?;
+    print(
+        rt,
+        b"Rows 2 and 12 between rows of infinities, on the ground\n",
+    )?;
+    print_beside_infinities(rt)
 }

@@ -5,54 +5,55 @@ use crate::example_cards::rhombic;
 use crate::tables::{BEFORE, count};
 use crate::text::{print, print_hundredths, print_number};
 use deck::{CardAnswer, Deck};
+use std::io;
 use table::TABLE_LENGTH;
 
 const MAX: u32 = 4_294_967_295;
 
-fn print_counts_of(deck: Deck) {
-    print(b"counts ");
-    print_number(deck.accepted as u64);
-    print(b" and ");
-    print_number(deck.refused as u64);
-    print(b", height ");
-    print_hundredths(deck.height);
+fn print_counts_of(rt: &impl Print, deck: Deck) -> io::Result<()> {
+    print(rt, b"counts ")?;
+    print_number(rt, deck.accepted as u64)?;
+    print(rt, b" and ")?;
+    print_number(rt, deck.refused as u64)?;
+    print(rt, b", height ")?;
+    print_hundredths(rt, deck.height)
 }
 
 // How many of the table's numbers are 0, and how many are as they were.
-fn print_answer(answer: CardAnswer, table: &[f32]) {
-    print(b"    verdict ");
-    print_number(answer.verdict as u64);
-    print(b", ");
-    print_counts_of(answer.deck);
-    print(b", zeros ");
-    print_number(count(table, 0.0));
-    print(b", as before ");
-    print_number(count(table, BEFORE));
-    print(b"\n");
+fn print_answer(rt: &impl Print, answer: CardAnswer, table: &[f32]) -> io::Result<()> {
+    print(rt, b"    verdict ")?;
+    print_number(rt, answer.verdict as u64)?;
+    print(rt, b", ")?;
+    print_counts_of(rt, answer.deck)?;
+    print(rt, b", zeros ")?;
+    print_number(rt, count(table, 0.0))?;
+    print(rt, b", as before ")?;
+    print_number(rt, count(table, BEFORE))?;
+    print(rt, b"\n")
 }
 
 // A card of one row.
-fn print_card(deck: Deck, table: &mut [f32]) {
+fn print_card(rt: &impl Print, deck: Deck, table: &mut [f32]) -> io::Result<()> {
     table::fill(table, BEFORE);
     let answer = deck::run_card(deck, rhombic(5, 5), table);
-    print_answer(answer, table);
+    print_answer(rt, answer, table)
 }
 
-fn print_malformed(deck: Deck, table: &mut [f32]) {
+fn print_malformed(rt: &impl Print, deck: Deck, table: &mut [f32]) -> io::Result<()> {
     table::fill(table, BEFORE);
     let answer = deck::run_malformed(deck, table);
-    print_answer(answer, table);
+    print_answer(rt, answer, table)
 }
 
 // Both on the deck as it is given.
-fn print_both(deck: Deck, table: &mut [f32]) {
-    print(b"  ");
-    print_counts_of(deck);
-    print(b", length ");
-    print_number(table.len() as u64);
-    print(b"\n");
-    print_card(deck, table);
-    print_malformed(deck, table);
+fn print_both(rt: &impl Print, deck: Deck, table: &mut [f32]) -> io::Result<()> {
+    print(rt, b"  ")?;
+    print_counts_of(rt, deck)?;
+    print(rt, b", length ")?;
+    print_number(rt, table.len() as u64)?;
+    print(rt, b"\n")?;
+    print_card(rt, deck, table)?;
+    print_malformed(rt, deck, table)
 }
 
 fn deck_of(height: f32, accepted: u32, refused: u32) -> Deck {
@@ -98,17 +99,21 @@ fn preset_length(k: usize) -> usize
     }
 }
 
-fn print_preset(k: usize) {
+fn print_preset(rt: &impl Print, k: usize) -> io::Result<()> {
     let mut table = [0.0f32; TABLE_LENGTH + 1];
     let n = preset_length(k);
-    print_both(preset_deck(k), &mut table[..n]);
+    print_both(rt, preset_deck(k), &mut table[..n])
 }
 
-pub(crate) fn print_presets() {
-    print(b"Decks that hold something: a card of one row, and a malformed entry\n");
+pub(crate) fn print_presets(rt: &impl Print) -> io::Result<()> {
+    print(
+        rt,
+        b"Decks that hold something: a card of one row, and a malformed entry\n",
+    )?;
     let mut k: usize = 0;
     while k < PRESETS {
-        print_preset(k);
+        print_preset(rt, k)?;
         k += 1;
     }
+    Ok(())
 }

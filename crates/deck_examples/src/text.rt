@@ -1,24 +1,24 @@
 // Text and numbers on standard output.
-use libc::STDOUT_FILENO;
+use std::io;
 
-pub(crate) fn print(text: &[u8]) {
-    io::write_all(STDOUT_FILENO, text);
+pub(crate) fn print(rt: &impl Print, text: &[u8]) -> io::Result<()> {
+    rt.write_all(text)
 }
 
-pub(crate) fn print_number(n: u64) {
-    io::print_decimal(STDOUT_FILENO, n);
+pub(crate) fn print_number(rt: &impl Print, n: u64) -> io::Result<()> {
+    rt.print(n)
 }
 
 // Right-justified in 3 columns.
-pub(crate) fn print_narrow(n: u32) {
+pub(crate) fn print_narrow(rt: &impl Print, n: u32) -> io::Result<()> {
     let mut field = [0u8; 3];
     output::i(n as i64, &mut field);
-    io::write_all(STDOUT_FILENO, &field);
+    rt.write_all(&field)
 }
 
 // Hundredths of a dB in 7 columns.
-pub(crate) fn print_hundredths(x: f32) {
+pub(crate) fn print_hundredths(rt: &impl Print, x: f32) -> io::Result<()> {
     let mut field = [0u8; 7];
     output::hundredths_field(x, &mut field);
-    io::write_all(STDOUT_FILENO, &field);
+    rt.write_all(&field)
 }

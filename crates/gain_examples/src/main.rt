@@ -1,45 +1,47 @@
 // Document 01's examples of gain calls. A line each: refusal, 0 if accepted (3 columns); gain,
 // efficiency and height left in hundredths (8 each); the call. The height carried is 0.
 // Then the turns that the two series of the integrals take, after refusal 11 or 0 (3 columns each).
+#![tactic(auto)]
+
 use integrals::Computed;
 use ioncap::{Gain, GainCall};
-use libc::STDOUT_FILENO;
 use parameters::{IoncapParams, Model};
+use std::io;
 
-fn print_number(n: u32) {
+fn print_number(rt: &impl Print, n: u32) -> io::Result<()> {
     let mut field = [b' '; 3];
     output::i(n as i64, &mut field);
-    io::write_all(STDOUT_FILENO, &field);
+    rt.write_all(&field)
 }
 
-fn print_value(x: f32) {
+fn print_value(rt: &impl Print, x: f32) -> io::Result<()> {
     let mut field = [b' '; 8];
     output::hundredths_field(x, &mut field);
-    io::write_all(STDOUT_FILENO, &field);
+    rt.write_all(&field)
 }
 
-fn print_text(text: &[u8]) {
-    io::write_all(STDOUT_FILENO, b"  ");
-    io::write_all(STDOUT_FILENO, text);
-    io::write_all(STDOUT_FILENO, b"\n");
+fn print_text(rt: &impl Print, text: &[u8]) -> io::Result<()> {
+    rt.write_all(b"  ")?;
+    rt.write_all(text)?;
+    rt.write_all(b"\n")
 }
 
-fn show(call: GainCall, text: &[u8]) {
+fn show(rt: &impl Print, call: GainCall, text: &[u8]) -> io::Result<()> {
     let answer = ioncap::gain_of(call, 0.0);
     match answer {
         Gain::Accepted(a) => {
-            print_number(0);
-            print_value(a.gain);
-            print_value(a.efficiency);
+            print_number(rt, 0)?;
+            print_value(rt, a.gain)?;
+            print_value(rt, a.efficiency)?;
         }
         Gain::Refused(n) => {
-            print_number(n);
-            print_value(0.0);
-            print_value(0.0);
+            print_number(rt, n)?;
+            print_value(rt, 0.0)?;
+            print_value(rt, 0.0)?;
         }
     }
-    print_value(ioncap::height_left(answer, 0.0));
-    print_text(text);
+    print_value(rt, ioncap::height_left(answer, 0.0))?;
+    print_text(rt, text)
 }
 
 // Conductivity 0.01 over dielectric constant 4.
@@ -96,61 +98,71 @@ fn conducting(asig: f32, delta: f32) -> GainCall {
     call
 }
 
-fn frequencies() {
-    show(dipole(0.3, 1.0), b"1 MHz");
-    show(dipole(0.3, 0.99999994), b"the f32 below");
-    show(dipole(0.3, 30.0), b"30 MHz");
-    show(dipole(0.3, 30.000002), b"the f32 above");
-    show(dipole(0.0, 30.000002), b"also on the ground");
+fn frequencies(rt: &impl Print) -> io::Result<()> {
+    show(rt, dipole(0.3, 1.0), b"1 MHz")?;
+    show(rt, dipole(0.3, 0.99999994), b"the f32 below")?;
+    show(rt, dipole(0.3, 30.0), b"30 MHz")?;
+    show(rt, dipole(0.3, 30.000002), b"the f32 above")?;
+    show(rt, dipole(0.0, 30.000002), b"also on the ground")
 }
 
-fn bays() {
-    show(curtain(64.0, 4.0, 0.5), b"64 bays");
-    show(curtain(64.00001, 4.0, 0.5), b"the f32 above");
-    show(curtain(65.0, 4.0, 0.5), b"65 bays");
-    show(curtain(65.0, 4.0, 0.0), b"also on the ground");
+fn bays(rt: &impl Print) -> io::Result<()> {
+    show(rt, curtain(64.0, 4.0, 0.5), b"64 bays")?;
+    show(rt, curtain(64.00001, 4.0, 0.5), b"the f32 above")?;
+    show(rt, curtain(65.0, 4.0, 0.5), b"65 bays")?;
+    show(rt, curtain(65.0, 4.0, 0.0), b"also on the ground")
 }
 
-fn elevations() {
+fn elevations(rt: &impl Print) -> io::Result<()> {
     let least = vectors::float(1);
-    show(vertical(5, 0.0), b"type 5 at elevation 0");
-    show(vertical(5, -0.0), b"at minus 0");
-    show(vertical(5, least), b"at the least f32 above 0");
-    show(vertical(5, -0.3), b"below the ground");
-    show(rhombic(0.0), b"type 1 at elevation 0");
-    show(rhombic(least), b"at the least f32 above 0");
-    show(rhombic(1000.0), b"at 1000");
+    show(rt, vertical(5, 0.0), b"type 5 at elevation 0")?;
+    show(rt, vertical(5, -0.0), b"at minus 0")?;
+    show(rt, vertical(5, least), b"at the least f32 above 0")?;
+    show(rt, vertical(5, -0.3), b"below the ground")?;
+    show(rt, rhombic(0.0), b"type 1 at elevation 0")?;
+    show(rt, rhombic(least), b"at the least f32 above 0")?;
+    show(rt, rhombic(1000.0), b"at 1000")
 }
 
-fn conductivities() {
-    show(conducting(0.0, 0.3), b"conductivity 0");
-    show(conducting(-0.0, 0.3), b"conductivity minus 0");
-    show(conducting(0.0, 0.0), b"conductivity 0 on the ground");
-    show(conducting(vectors::float(1), 0.3), b"the least f32 above 0");
+fn conductivities(rt: &impl Print) -> io::Result<()> {
+    show(rt, conducting(0.0, 0.3), b"conductivity 0")?;
+    show(rt, conducting(-0.0, 0.3), b"conductivity minus 0")?;
+    show(rt, conducting(0.0, 0.0), b"conductivity 0 on the ground")?;
     show(
+        rt,
+        conducting(vectors::float(1), 0.3),
+        b"the least f32 above 0",
+    )?;
+    show(
+        rt,
         conducting(vectors::float(0x0080_0000), 0.3),
         b"the least normal f32",
-    );
+    )
 }
 
-fn elements() {
+fn elements(rt: &impl Print) -> io::Result<()> {
     show(
+        rt,
         curtain(4.0, 4.0, 0.5),
         b"curtain of 4 elements at elevation 0.5",
-    );
-    show(curtain(4.0, 4.0, 1.0), b"at elevation 1, on the floor");
-    show(curtain(4.0, -2.0, 1.0), b"-2 elements, on the floor");
-    show(curtain(4.0, 8.0, 0.5), b"8 elements");
-    show(curtain(4.0, 10.0, 0.5), b"10 elements");
-    show(curtain(4.0, 12.0, 0.5), b"12 elements count as 10");
-    show(curtain(4.0, -1.0, 0.5), b"-1 counts as 10");
-    show(curtain(4.0, -0.5, 0.5), b"-0.5 counts as none");
+    )?;
+    show(rt, curtain(4.0, 4.0, 1.0), b"at elevation 1, on the floor")?;
+    show(rt, curtain(4.0, -2.0, 1.0), b"-2 elements, on the floor")?;
+    show(rt, curtain(4.0, 8.0, 0.5), b"8 elements")?;
+    show(rt, curtain(4.0, 10.0, 0.5), b"10 elements")?;
+    show(rt, curtain(4.0, 12.0, 0.5), b"12 elements count as 10")?;
+    show(rt, curtain(4.0, -1.0, 0.5), b"-1 counts as 10")?;
+    show(rt, curtain(4.0, -0.5, 0.5), b"-0.5 counts as none")
 }
 
-fn floors() {
-    show(vertical(2, 1.5707964), b"type 2 straight up, not floored");
-    show(vertical(5, 1.5707964), b"type 5 straight up");
-    show(vertical(2, 0.0), b"type 2 at elevation 0");
+fn floors(rt: &impl Print) -> io::Result<()> {
+    show(
+        rt,
+        vertical(2, 1.5707964),
+        b"type 2 straight up, not floored",
+    )?;
+    show(rt, vertical(5, 1.5707964), b"type 5 straight up")?;
+    show(rt, vertical(2, 0.0), b"type 2 at elevation 0")
 }
 
 // A dipole's call with one of the twelve numbers replaced.
@@ -173,60 +185,60 @@ fn replaced(place: u32, value: f32) -> GainCall {
     call
 }
 
-fn limit(place: u32, text: &[u8]) {
-    show(replaced(place, 1000.0), text);
-    show(replaced(place, 1000.00006), b"the f32 above");
+fn limit(rt: &impl Print, place: u32, text: &[u8]) -> io::Result<()> {
+    show(rt, replaced(place, 1000.0), text)?;
+    show(rt, replaced(place, 1000.00006), b"the f32 above")
 }
 
-fn limits() {
-    limit(0, b"azimuth 1000");
-    limit(1, b"conductivity 1000");
-    limit(2, b"dielectric constant 1000");
-    limit(3, b"angle 1000");
-    limit(4, b"leg 1000");
-    limit(5, b"height 1000");
-    limit(6, b"first extra 1000");
-    limit(7, b"second extra 1000");
-    limit(8, b"third extra 1000");
-    limit(9, b"fourth extra 1000");
-    limit(10, b"elevation 1000");
-    limit(11, b"1000 MHz");
+fn limits(rt: &impl Print) -> io::Result<()> {
+    limit(rt, 0, b"azimuth 1000")?;
+    limit(rt, 1, b"conductivity 1000")?;
+    limit(rt, 2, b"dielectric constant 1000")?;
+    limit(rt, 3, b"angle 1000")?;
+    limit(rt, 4, b"leg 1000")?;
+    limit(rt, 5, b"height 1000")?;
+    limit(rt, 6, b"first extra 1000")?;
+    limit(rt, 7, b"second extra 1000")?;
+    limit(rt, 8, b"third extra 1000")?;
+    limit(rt, 9, b"fourth extra 1000")?;
+    limit(rt, 10, b"elevation 1000")?;
+    limit(rt, 11, b"1000 MHz")
 }
 
-fn show_turns(x: f32, text: &[u8]) {
+fn show_turns(rt: &impl Print, x: f32, text: &[u8]) -> io::Result<()> {
     match integrals::integrals_of(x) {
         Computed::Settled(_, turns) => {
-            print_number(0);
-            print_number(turns.ci);
-            print_number(turns.si);
+            print_number(rt, 0)?;
+            print_number(rt, turns.ci)?;
+            print_number(rt, turns.si)?;
         }
         Computed::Unsettled => {
-            print_number(11);
-            print_number(0);
-            print_number(0);
+            print_number(rt, 11)?;
+            print_number(rt, 0)?;
+            print_number(rt, 0)?;
         }
     }
-    print_text(text);
+    print_text(rt, text)
 }
 
 // Within `cisi`'s limits three turns suffice: measured over every f32 from 0 to below 1, not proved.
 // Below 0, outside the limits, there are eight, and more.
-fn series() {
-    show_turns(0.0, b"turns at 0");
-    show_turns(0.9, b"turns at 0.9");
-    show_turns(1.0, b"no series at 1");
-    show_turns(-4.5, b"eight turns at -4.5");
-    show_turns(-5.0, b"the sine's series unsettled at -5");
-    show_turns(-6.0, b"both unsettled at -6");
+fn series(rt: &impl Print) -> io::Result<()> {
+    show_turns(rt, 0.0, b"turns at 0")?;
+    show_turns(rt, 0.9, b"turns at 0.9")?;
+    show_turns(rt, 1.0, b"no series at 1")?;
+    show_turns(rt, -4.5, b"eight turns at -4.5")?;
+    show_turns(rt, -5.0, b"the sine's series unsettled at -5")?;
+    show_turns(rt, -6.0, b"both unsettled at -6")
 }
 
-fn main() {
-    frequencies();
-    bays();
-    conductivities();
-    elevations();
-    elements();
-    floors();
-    limits();
-    series();
+fn main(rt: HostRuntime) -> io::Result<()> {
+    frequencies(&rt)?;
+    bays(&rt)?;
+    conductivities(&rt)?;
+    elevations(&rt)?;
+    elements(&rt)?;
+    floors(&rt)?;
+    limits(&rt)?;
+    series(&rt)
 }
