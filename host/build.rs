@@ -1,5 +1,5 @@
-//! Links the proved library, which `rt staticlib capi` makes. IONCAP_LIB names
-//! its folder if it is not the project's.
+//! Links the proved library, which host/run makes. IONCAP_LIB names its folder
+//! if it is not the project's.
 
 use std::env;
 use std::path::PathBuf;
@@ -16,7 +16,7 @@ fn main() {
     let archive = folder.join("libcapi.a");
     println!("cargo:rerun-if-changed={}", archive.display());
     if !archive.is_file() {
-        panic!("{} is missing: run `rt staticlib capi`", archive.display());
+        panic!("{} is missing: host/run makes it", archive.display());
     }
     println!("cargo:rustc-link-search=native={}", folder.display());
     println!("cargo:rustc-link-lib=static=capi");

@@ -1,6 +1,6 @@
 /* Gains of the ten IONCAP antennas: document 01 section 9.
  *
- * Link target/staticlib/libcapi.a (made by `rt staticlib capi`) and libm.
+ * Link target/staticlib/libcapi.a (made by host/run) and libm.
  *
  * Each function answers document 01's refusal number, 0 if it accepts:
  *
