@@ -5,7 +5,6 @@ use Rattle.limits.specs.Refusals.{first_refusal}
 use Rattle.deck_state.specs.DeckState.{state_of, deck_refusal}
 use Rattle.deck_state.proofs.deck_refusal.Goals as goal
 
-
 pub returns-then-is_full : goal.returns-then-is_full
 unfolding deck_refusal first_refusal
 returns-then-is_full c = rw (← c.is_full.ensures, c.if-is_full.true)

@@ -13,14 +13,13 @@ use Rattle.antenna.proofs.CardRows.{end_fits, ends_in}
 use borrow.Author.Rules.{rules}
 use Rattle.antenna.proofs.lookups.card_lookup.Goals as goal
 
-
 pub returns-then-refusal-ne0 : goal.returns-then-refusal-ne0
 unfolding lookup_number lookup_values card_lookup_of card_lookup_values
 returns-then-refusal-ne0 c = let e = (let z : let a = c.args in c.card_refusal-refusal.result ≡ card_lookup_number a.first a.last a.verdict a.table.now a.fmc a.delta = let r = (let z : (to_z w32 (of_z w32 c.args.first) ≡ c.args.first) × (to_z w32 (of_z w32 c.args.last) ≡ c.args.last) = (to_z-of_z w32 _ (search rules), to_z-of_z w32 _ (search rules)) in z) in rw (r.0, r.1) at c.card_refusal-refusal.ensures in z) in record {
-      value = rw (← e, ne_eqb _ 0 c.if-refusal-ne0.true);
-      number = e;
-      values = rw (← e, ne_eqb _ 0 c.if-refusal-ne0.true);
-    }
+  value = rw (← e, ne_eqb _ 0 c.if-refusal-ne0.true);
+  number = e;
+  values = rw (← e, ne_eqb _ 0 c.if-refusal-ne0.true);
+}
 
 pub returns-then-verdict-ne0 : goal.returns-then-verdict-ne0
 unfolding lookup_number lookup_values card_lookup_of card_lookup_values round of_bits
@@ -55,7 +54,7 @@ from_filled_rows-requires c =
     record {
       table_len = size;
       in_table = rw (s.0, s.1, at) (ends_in _ _ _ _ ((let z : let a = c.args in Range a.first a.last = let z = c.if-refusal-ne0.false in
-    range_of_lem _ _ (card-range _ _ _ _ _ _ (sym ((let z : let a = c.args in c.card_refusal-refusal.result ≡ card_lookup_number a.first a.last a.verdict a.table.now a.fmc a.delta = let r = (let z : (to_z w32 (of_z w32 c.args.first) ≡ c.args.first) × (to_z w32 (of_z w32 c.args.last) ≡ c.args.last) = (to_z-of_z w32 _ (search rules), to_z-of_z w32 _ (search rules)) in z) in rw (r.0, r.1) at c.card_refusal-refusal.ensures in z)) ∙ z) (eq-eqb _ 0 c.if-verdict-ne0.false)) in z)));
+          range_of_lem _ _ (card-range _ _ _ _ _ _ (sym ((let z : let a = c.args in c.card_refusal-refusal.result ≡ card_lookup_number a.first a.last a.verdict a.table.now a.fmc a.delta = let r = (let z : (to_z w32 (of_z w32 c.args.first) ≡ c.args.first) × (to_z w32 (of_z w32 c.args.last) ≡ c.args.last) = (to_z-of_z w32 _ (search rules), to_z-of_z w32 _ (search rules)) in z) in rw (r.0, r.1) at c.card_refusal-refusal.ensures in z)) ∙ z) (eq-eqb _ 0 c.if-verdict-ne0.false)) in z)));
       in_table_2 = (rw at (low_in _ _), rw at (high_in _ _));
     }
 

@@ -7,7 +7,6 @@ use Rattle.deck.proofs.Laws.{the_laws}
 use Rattle.deck.proofs.CardRows.{first_of, last_of, Rows, RowsOf, rows_of, rows_read, rows_step, rows_stop, rows_end}
 use Rattle.deck.proofs.filling.fill_card.Goals as goal
 
-
 pub overflow_cast-first : goal.overflow_cast-first
 overflow_cast-first c = ((let z : Rows c.read_card-card.result c.args.fields = rows_of _ _ c.read_card-card.ensures c.requires.1 in z)).first_fits
 

@@ -9,7 +9,6 @@ use Rattle.deck.proofs.Fills.{row_unsettled, row_settled}
 use borrow.Author.Rules.{rules}
 use Rattle.deck.proofs.row.fill_row.Goals as goal
 
-
 pub returns-in_default : goal.returns-in_default
 returns-in_default c = row_unsettled _ _ _ _ _ (sym c.row_of.ensures.0 ∙ c.in_default.is)
 

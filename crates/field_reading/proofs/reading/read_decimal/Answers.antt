@@ -21,19 +21,19 @@ pub returns-then-s-point-ne46 : goal.returns-then-s-point-ne46
 returns-then-s-point-ne46 c = decimal_reading _ _ (no_point _ _ _ _ _ c.signed_digits.ensures c.in-Read.is c.digits.ensures _ _ c.in-Read-digits.is c.if-s-point-ne46.true)
 
 pub overflow_mul-a : goal.overflow_mul-a
-overflow_mul-a c = 
+overflow_mul-a c =
     let a = a_below c.args.s.now _ _ _ _ c.signed_digits.ensures c.in-Read.is c.digits.ensures in
     let b = b_below c.args.s.now _ _ _ _ c.signed_digits.ensures c.in-Read.is c.digits.ensures _ _ c.in-Read-digits.is in
     omega arith
 
 pub overflow_add-a : goal.overflow_add-a
-overflow_add-a c = 
+overflow_add-a c =
     let a = a_below c.args.s.now _ _ _ _ c.signed_digits.ensures c.in-Read.is c.digits.ensures in
     let b = b_below c.args.s.now _ _ _ _ c.signed_digits.ensures c.in-Read.is c.digits.ensures _ _ c.in-Read-digits.is in
     omega arith
 
 pub ten_thousandths-requires : goal.ten_thousandths-requires
-ten_thousandths-requires c = 
+ten_thousandths-requires c =
     let a = a_below c.args.s.now _ _ _ _ c.signed_digits.ensures c.in-Read.is c.digits.ensures in
     let b = b_below c.args.s.now _ _ _ _ c.signed_digits.ensures c.in-Read.is c.digits.ensures _ _ c.in-Read-digits.is in
     omega arith

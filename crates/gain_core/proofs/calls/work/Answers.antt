@@ -20,7 +20,6 @@ use Rattle.gain_core.proofs.Unsettled.{all_answers}
 use borrow.Author.Rules.{rules}
 use Rattle.gain_core.proofs.calls.work.Goals as goal
 
-
 module _ (antenna : Antenna) (fmc delta : Float) (e : Elevation) (height : Float) where
   abbrev ground : Bool
   ground = le delta (num 0 1)

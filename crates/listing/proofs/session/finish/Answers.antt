@@ -8,7 +8,6 @@ use native.Mathlib.Omega.{arith}
 use borrow.Author.Rules.{rules}
 use Rattle.listing.proofs.session.finish.Goals as goal
 
-
 pub returns-then-not-is_ready : goal.returns-then-not-is_ready
 returns-then-not-is_ready c = finish_idle _ _ _ _ _ _ c.is_ready.ensures (ap not c.if-not-is_ready.true)
 

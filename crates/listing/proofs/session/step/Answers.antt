@@ -8,7 +8,6 @@ use native.Mathlib.Omega.{arith}
 use borrow.Author.Rules.{rules}
 use Rattle.listing.proofs.session.step.Goals as goal
 
-
 pub returns-then-not-is_ready : goal.returns-then-not-is_ready
 returns-then-not-is_ready c = step_idle _ _ _ _ _ _ c.is_ready.ensures _ (ap not c.if-not-is_ready.true)
 
