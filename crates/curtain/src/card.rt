@@ -1,5 +1,8 @@
 // What the curtain takes from the card alone: its bays and the elements of each.
 ghost use Rattle.std.specs.Prelude.{◌≡◌};
+ghost use Rattle.std.specs.Float.{binary32};
+ghost use Rattle.std.specs.Float.Ieee.{eq, rem};
+ghost use Rattle.single.specs.Single.{num};
 ghost use Rattle.elementary.specs.Basic.{cut_toward};
 ghost use Rattle.curtain.specs.Card.{count_of, card_from, card_of};
 
@@ -35,11 +38,23 @@ fn card_from(phi: f32, ep: f32, nep: u8, elements: f32) -> CurtainCard
     CurtainCard { ep, nep, nn, m }
 }
 
+// An even whole number, zero among them. From 2 ^ 24 on every finite f32 is one.
+fn is_even(phi: f32) -> bool
+    ensures { result ≡ eq (rem binary32 phi (num 2 1)) (num 0 1) }
+{
+    let size = elementary::abs(phi);
+    if size < 16777216.0 {
+        size.trunc() == size && elementary::cut(size) % 2 == 0
+    } else {
+        size.is_finite()
+    }
+}
+
 // Any number of bays that is not an even whole number counts as odd.
 pub fn curtain_card(phi: f32, elements: f32) -> CurtainCard
     ensures { result ≡ card_of phi elements }
 {
-    if phi % 2.0 == 0.0 {
+    if is_even(phi) {
         card_from(phi, 0.0, 0, elements)
     } else {
         card_from(phi, 1.0, 1, elements)
