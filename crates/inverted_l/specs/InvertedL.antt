@@ -41,27 +41,27 @@ row_from fac2 hwave (Ra.Settled ra turns) =
 row_from fac2 hwave Ra.Unsettled = Row.Unsettled
 
 -- what a row takes from the leg's fac and the height's hwave: hac2 = hwave + hwave and hac4 = hac2 + hac2
-unfoldable pub inverted_lrow : Float → Float → InvertedLRow
-inverted_lrow fac hwave =
+unfoldable pub inverted_l_row : Float → Float → InvertedLRow
+inverted_l_row fac hwave =
     let hac2 = hwave ⊞ hwave in
     row_from (fac ⊠ num 2 1) hwave (resistance_of hac2 (hac2 ⊞ hac2))
 
-unfoldable pub inverted_lsettles : Float → Bool
-inverted_lsettles hwave = let hac2 = hwave ⊞ hwave in pair_settles hac2 (hac2 ⊞ hac2)
+unfoldable pub inverted_l_settles : Float → Bool
+inverted_l_settles hwave = let hac2 = hwave ⊞ hwave in pair_settles hac2 (hac2 ⊞ hac2)
 
 -- document 01's number and values of a row's answer: zeros where it is refused
-unfoldable pub inverted_lnumber : InvertedLRow → ℕ
-inverted_lnumber (Row.Settled row turns) = 0
-inverted_lnumber Row.Unsettled = 11
+unfoldable pub inverted_l_number : InvertedLRow → ℕ
+inverted_l_number (Row.Settled row turns) = 0
+inverted_l_number Row.Unsettled = 11
 
 abbrev pub zero_inverted_l : InvertedL
 zero_inverted_l =
     let o = num 0 1 in
     record { fac2 = o; hwave = o; cfac2 = o; sfac2 = o; csum = o; ssum = o; ra = o; eff8 = o }
 
-unfoldable pub inverted_lvalues : InvertedLRow → InvertedL
-inverted_lvalues (Row.Settled row turns) = row
-inverted_lvalues Row.Unsettled = zero_inverted_l
+unfoldable pub inverted_l_values : InvertedLRow → InvertedL
+inverted_l_values (Row.Settled row turns) = row
+inverted_l_values Row.Unsettled = zero_inverted_l
 
 -- g2, from u, hk, c and sphip
 unfoldable pub g2_of : InvertedL → Azimuth → Elevation → Ground → Float
@@ -92,6 +92,6 @@ f1_of row elevation earth =
     ((a ⊠ a ⊞ b ⊠ b) ⊠ (num 1 1 ⊟ num 2 1 ⊠ cv ⊠ cosine (earth.psiv ⊟ num 2 1 ⊠ bprim) ⊞ cv ⊠ cv) ⊘ (t ⊠ t))
 
 -- `rain`
-unfoldable pub inverted_lrain : InvertedL → Azimuth → Elevation → Ground → Float
-inverted_lrain row azimuth elevation earth =
+unfoldable pub inverted_l_rain : InvertedL → Azimuth → Elevation → Ground → Float
+inverted_l_rain row azimuth elevation earth =
     num 30 1 ⊠ (g2_of row azimuth elevation earth ⊞ f1_of row elevation earth) ⊘ row.ra

@@ -1,8 +1,8 @@
 // Inverted L, type 8.
 ghost use Rattle.std.specs.Prelude.{◌≡◌};
 ghost use Rattle.single.specs.Answer.{IsAnswer};
-ghost use Rattle.inverted_l.specs.InvertedL.{inverted_lsettles, inverted_lnumber, inverted_lvalues, zero_inverted_l};
-ghost use Rattle.inverted_l.specs.InvertedL.{eff8_of, inverted_lrow, g2_of, bprim_of, f1_of, inverted_lrain};
+ghost use Rattle.inverted_l.specs.InvertedL.{inverted_l_settles, inverted_l_number, inverted_l_values, zero_inverted_l};
+ghost use Rattle.inverted_l.specs.InvertedL.{eff8_of, inverted_l_row, g2_of, bprim_of, f1_of, inverted_l_rain};
 
 use angles::{Azimuth, Elevation};
 use integrals::Turns;
@@ -43,7 +43,7 @@ fn eff8_of(hwave: f32) -> f32
 }
 
 pub fn inverted_l_row(fac: f32, hwave: f32) -> InvertedLRow
-    ensures { IsAnswer inverted_lnumber inverted_lvalues zero_inverted_l 11 (inverted_lrow fac hwave) (inverted_lsettles hwave) result }
+    ensures { IsAnswer inverted_l_number inverted_l_values zero_inverted_l 11 (inverted_l_row fac hwave) (inverted_l_settles hwave) result }
 {
     let hac2 = hwave + hwave;
     let Resistance::Settled(ra, turns) = resistance_of(hac2, hac2 + hac2) else {
@@ -113,7 +113,7 @@ fn f1(row: InvertedL, elevation: Elevation, earth: Ground) -> f32
 }
 
 pub fn inverted_l_rain(row: InvertedL, azimuth: Azimuth, elevation: Elevation, earth: Ground) -> f32
-    ensures { result ≡ inverted_lrain row azimuth elevation earth }
+    ensures { result ≡ inverted_l_rain row azimuth elevation earth }
 {
     let g2 = g2(row, azimuth, elevation, earth);
     let f1 = f1(row, elevation, earth);

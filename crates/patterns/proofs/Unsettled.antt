@@ -22,11 +22,11 @@ use Rattle.verticals.specs.Monopole.{monopole_number}
 use Rattle.verticals.proofs.Refusal.{monopole_number_lem}
 use Rattle.verticals.specs.declared.monopole.MonopoleRow.{MonopoleRow}
 use Rattle.verticals.specs.declared.monopole.MonopoleRow.TheVariants as M
-use Rattle.inverted_l.specs.InvertedL.{inverted_lnumber}
-use Rattle.inverted_l.proofs.Refusal.{inverted_l_number}
+use Rattle.inverted_l.specs.InvertedL.{inverted_l_number}
+use Rattle.inverted_l.proofs.Refusal.{inverted_l_number_lem}
 use Rattle.inverted_l.specs.declared.inverted_l.InvertedLRow.{InvertedLRow}
 use Rattle.inverted_l.specs.declared.inverted_l.InvertedLRow.TheVariants as L
-use Rattle.patterns.specs.Pattern.{settled_at, of_dipole, of_monopole, of_inverted_l, dipole_of, monopole_for, inverted_lof, pattern_by, pattern_of, pattern_settles, pattern_number, pattern_value}
+use Rattle.patterns.specs.Pattern.{settled_at, of_dipole, of_monopole, of_inverted_l, dipole_of, monopole_for, inverted_l_of, pattern_by, pattern_of, pattern_settles, pattern_number, pattern_value}
 use Rattle.antennas.specs.declared.antenna.Antenna.{Antenna}
 use Rattle.patterns.specs.declared.pattern.Pattern.TheVariants as P
 use Rattle.patterns.specs.declared.pattern.PatternAnswer.{PatternAnswer}
@@ -42,8 +42,8 @@ unfolding pattern_number monopole_number
 of_monopole_lem (M.Settled row turns) = refl
 of_monopole_lem M.Unsettled = refl
 
-of_inverted : (r : InvertedLRow) → pattern_number (of_inverted_l r) ≡ inverted_lnumber r
-unfolding pattern_number inverted_lnumber
+of_inverted : (r : InvertedLRow) → pattern_number (of_inverted_l r) ≡ inverted_l_number r
+unfolding pattern_number inverted_l_number
 of_inverted (L.Settled row turns) = refl
 of_inverted L.Unsettled = refl
 
@@ -67,7 +67,7 @@ cases Unsettled = inr refl
 
 module _ (antenna : Antenna) (wave : Float) where
   pub pattern_number_lem : pattern_number (pattern_of antenna wave) ≡ settled_number (pattern_settles antenna wave)
-  unfolding pattern_of pattern_settles pattern_number is_type settled_at dipole_of monopole_for inverted_lof
+  unfolding pattern_of pattern_settles pattern_number is_type settled_at dipole_of monopole_for inverted_l_of
   pattern_number_lem =
       let kop = antenna.kop in
       by_type kop 1 (λ p. rw p refl) (λ t1.
@@ -77,7 +77,7 @@ module _ (antenna : Antenna) (wave : Float) where
       by_type kop 5 (λ p. rw p (of_monopole_lem _ ∙ monopole_number_lem _ _)) (λ t5.
       by_type kop 6 (λ p. rw p refl) (λ t6.
       by_type kop 7 (λ p. rw p refl) (λ t7.
-      by_type kop 8 (λ p. rw p (of_inverted _ ∙ inverted_l_number _ _)) (λ t8.
+      by_type kop 8 (λ p. rw p (of_inverted _ ∙ inverted_l_number_lem _ _)) (λ t8.
       by_type kop 9 (λ p. rw p refl) (λ t9.
       by_type kop 10 (λ p. rw p refl) (λ t10.
       rw (t1, t2, t3, t4, t5, t6, t7, t8, t9, t10) refl))))))))))

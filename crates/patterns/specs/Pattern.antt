@@ -21,7 +21,7 @@ use Rattle.dipoles.specs.Pattern.{dipole_rain}
 use Rattle.dipoles.specs.declared.row.DipoleRow.{DipoleRow}
 use Rattle.dipoles.specs.declared.row.DipoleRow.TheVariants as D
 use Rattle.verticals.specs.Monopole.{monopole_row, monopole_settles, monopole_rain}
-use Rattle.inverted_l.specs.InvertedL.{inverted_lrow, inverted_lsettles, inverted_lrain}
+use Rattle.inverted_l.specs.InvertedL.{inverted_l_row, inverted_l_settles, inverted_l_rain}
 use Rattle.verticals.specs.declared.monopole.MonopoleRow.{MonopoleRow}
 use Rattle.verticals.specs.declared.monopole.MonopoleRow.TheVariants as M
 use Rattle.inverted_l.specs.declared.inverted_l.InvertedLRow.{InvertedLRow}
@@ -56,8 +56,8 @@ dipole_of fac hwave = of_dipole (dipole_row fac hwave)
 unfoldable pub monopole_for : Length → Float → PatternAnswer
 monopole_for leg wave = of_monopole (monopole_row leg wave)
 
-unfoldable pub inverted_lof : Float → Float → PatternAnswer
-inverted_lof fac hwave = of_inverted_l (inverted_lrow fac hwave)
+unfoldable pub inverted_l_of : Float → Float → PatternAnswer
+inverted_l_of fac hwave = of_inverted_l (inverted_l_row fac hwave)
 
 -- what a row at this wavelength takes, by type, of its leg and height in wavelengths
 abbrev pub pattern_by : ℤ → Antenna → Float → LegInWaves → HeightInWaves → PatternAnswer
@@ -69,7 +69,7 @@ pattern_by kop antenna wave leg height =
     let hwave = height.hwave in
     cond (is_type kop 1) (settled_at (P.Rhombic (legs_of phi azimuth fac hwave)))
     (cond (is_type kop 10) (settled_at (P.Interlaced (legs_of phi azimuth fac hwave) (offset_of (get_or aex 0 nan) (get_or aex 1 nan) wave)))
-    (cond (is_type kop 8) (inverted_lof fac hwave)
+    (cond (is_type kop 8) (inverted_l_of fac hwave)
     (cond (is_type kop 7) (settled_at (P.Vee (vee_slope (get_or aex 0 nan) wave leg height phi azimuth)))
     (cond (is_type kop 9) (settled_at (P.SlopingRhombic (rhombic_slope (get_or aex 0 nan) wave leg height phi azimuth)))
     (cond (is_type kop 6) (settled_at (P.Curtain (card_of phi (get_or aex 0 nan)) (row_of fac height.h1 aex azimuth wave)))
@@ -86,7 +86,7 @@ pattern_settles antenna wave =
     let kop = antenna.kop in
     cond (is_type kop 3 || is_type kop 4) (dipole_settles (leg_of antenna.leg wave).fac)
     (cond (is_type kop 2 || is_type kop 5) (monopole_settles antenna.leg wave)
-    (cond (is_type kop 8) (inverted_lsettles (height_of antenna.height wave).hwave)
+    (cond (is_type kop 8) (inverted_l_settles (height_of antenna.height wave).hwave)
     true))
 
 -- document 01's number of an answer, and its pattern: none, of power 0, where it is refused
@@ -107,5 +107,5 @@ power_of (P.SlopingRhombic slope) azimuth e earth = sloping_rhombic_rain slope e
 power_of (P.Curtain card row) azimuth e earth = num 0 1
 power_of (P.Wire row) azimuth e earth = dipole_rain row azimuth e earth
 power_of (P.Vertical row) azimuth e earth = monopole_rain row e earth
-power_of (P.Inverted row) azimuth e earth = inverted_lrain row azimuth e earth
+power_of (P.Inverted row) azimuth e earth = inverted_l_rain row azimuth e earth
 power_of P.Other azimuth e earth = num 0 1

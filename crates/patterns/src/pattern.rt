@@ -3,7 +3,7 @@ ghost use Rattle.std.specs.Prelude.{◌≡◌};
 ghost use Rattle.single.specs.Answer.{IsAnswer};
 ghost use Rattle.patterns.specs.Pattern.{pattern_settles, pattern_number, pattern_value};
 ghost use Rattle.patterns.specs.declared.pattern.Pattern.TheVariants as P;
-ghost use Rattle.patterns.specs.Pattern.{settled_at, dipole_of, monopole_for, inverted_lof, pattern_of, power_of};
+ghost use Rattle.patterns.specs.Pattern.{settled_at, dipole_of, monopole_for, inverted_l_of, pattern_of, power_of};
 
 use angles::{Azimuth, Elevation};
 use antennas::Antenna;
@@ -65,7 +65,7 @@ fn monopole_of(leg: Length, wave: f32) -> PatternAnswer
 }
 
 fn inverted_l_of(fac: f32, hwave: f32) -> PatternAnswer
-    ensures { result ≡ inverted_lof fac hwave }
+    ensures { result ≡ inverted_l_of fac hwave }
 {
     let InvertedLRow::Settled(row, turns) = inverted_l::inverted_l_row(fac, hwave) else {
         return PatternAnswer::Unsettled;

@@ -1,14 +1,14 @@
 use lib.Ieee.{round, of_bits}
-use Rattle.inverted_l.specs.InvertedL.{inverted_lrow}
+use Rattle.inverted_l.specs.InvertedL.{inverted_l_row}
 use Rattle.inverted_l.proofs.Refusal.{inverted_l_answers}
 use Rattle.inverted_l.proofs.inverted_l.inverted_l_row.Goals as goal
 
 pub returns-in_default : goal.returns-in_default
-unfolding inverted_lrow round of_bits
+unfolding inverted_l_row round of_bits
 returns-in_default c = inverted_l_answers c.args.fac c.args.hwave _ (rw (← c.resistance_of.ensures.0, c.in_default.is))
 
 pub returns : goal.returns
-unfolding inverted_lrow round of_bits
+unfolding inverted_l_row round of_bits
 returns c = inverted_l_answers c.args.fac c.args.hwave _ (rw (
   ← c.resistance_of.ensures.0,
   c.in-Settled.is,
