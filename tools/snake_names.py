@@ -84,7 +84,7 @@ def to_rename(root):
                 others.add(word)
                 if before == "." and word not in fields:
                     continue
-                if TURN.fullmatch(word) and re.search(r"[A-Z-]", word[1:]) and word not in kit:
+                if TURN.fullmatch(word) and re.search(r"[A-Z-]", word[1:]) and word not in kit and not re.match(r"b'.'$", word):
                     found.add(word)
     names = {word: OTHERS.get(word) or snake(word) for word in found}
     functions = {new for old, new in names.items() if "-" not in old}
