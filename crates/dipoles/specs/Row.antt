@@ -23,9 +23,9 @@ cotangent x = num 1 1 ⊘ tangent x
 unfoldable pub xr_of : Float → Integrals → Integrals → Float
 xr_of fac at2kl atkl =
     let g = cotangent fac in
-    let cin_kl_lem = num 577 1000 ⊞ logarithm (num 2 1 ⊠ fac) ⊟ atkl.ci in
-    let cin_2kl_lem = num 577 1000 ⊞ logarithm (num 4 1 ⊠ fac) ⊟ at2kl.ci in
-    num 30 1 ⊠ ((num 1 1 ⊟ g ⊠ g) ⊠ cin_2kl_lem ⊞ num 4 1 ⊠ g ⊠ g ⊠ cin_kl_lem ⊞ num 2 1 ⊠ g ⊠ (at2kl.si ⊟ num 2 1 ⊠ atkl.si)) ⊘ sin2kl
+    let cin_kl = num 577 1000 ⊞ logarithm (num 2 1 ⊠ fac) ⊟ atkl.ci in
+    let cin_2kl = num 577 1000 ⊞ logarithm (num 4 1 ⊠ fac) ⊟ at2kl.ci in
+    num 30 1 ⊠ ((num 1 1 ⊟ g ⊠ g) ⊠ cin_2kl ⊞ num 4 1 ⊠ g ⊠ g ⊠ cin_kl ⊞ num 2 1 ⊠ g ⊠ (at2kl.si ⊟ num 2 1 ⊠ atkl.si)) ⊘ sin2kl
 
 abbrev pub dipole_from : Float → Float → IntegralPair → DipoleRow
 dipole_from fac hwave (Pair.Settled at2kl atkl turns) =

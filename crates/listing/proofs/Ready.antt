@@ -42,7 +42,7 @@ module _ (line : List ℕ) (table : List Float) (out : List ℕ) (at : ℕ) wher
       let p = and_left (eqb (length line) 120 && is_table table) (leb (at + 569) (length out)) e in
       record {
         line_length = eqb-true (length line) 120 (and_left (eqb (length line) 120) (is_table table) p);
-        table_length_lem = eqb-true (length table) 2760 (and_right (eqb (length line) 120) (is_table table) p);
+        table_len = eqb-true (length table) 2760 (and_right (eqb (length line) 120) (is_table table) p);
         room = leb-true (at + 569) (length out) (and_right (eqb (length line) 120 && is_table table) (leb (at + 569) (length out)) e);
       }
 
@@ -60,4 +60,4 @@ tested line table out at b is e = ready line table out at (sym is ∙ true_of b 
 
 pub ready_from : (line : List ℕ) (table : List Float) (out : List ℕ) (at : ℕ) → Ready line table out at → is_ready line table out at ≡ true
 unfolding is_ready is_table
-ready_from line table out at r = rw (eq-eqb (length line) 120 r.line_length, eq-eqb (length table) 2760 r.table_length_lem, le-leb (at + 569) (length out) r.room) refl
+ready_from line table out at r = rw (eq-eqb (length line) 120 r.line_length, eq-eqb (length table) 2760 r.table_len, le-leb (at + 569) (length out) r.room) refl

@@ -5,5 +5,5 @@ use Rattle.listing.specs.Sizes.{most_held, most_text}
 
 pub record Ready (line : List ℕ) (table : List Float) (out : List ℕ) (at : ℕ) : Type 0 where
   pub line_length : length line ≡ most_held
-  pub table_length_lem : length table ≡ table_length
+  pub table_len : length table ≡ table_length
   pub room : at + most_text ≤ length out

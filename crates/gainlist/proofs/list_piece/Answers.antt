@@ -34,7 +34,7 @@ loop-used-preserved c =
     let i = c.loop-used.invariant in
     let k = kept s in
     record {
-      kept = record { line_length = k.line_same ∙ i.kept.line_length; table_length_lem = k.table_same ∙ i.kept.table_length_lem; room = c.flush_full-s.ensures };
+      kept = record { line_length = k.line_same ∙ i.kept.line_length; table_len = k.table_same ∙ i.kept.table_len; room = c.flush_full-s.ensures };
       within = (advanced s).within;
       lengths = record { line_same = k.line_same ∙ i.lengths.line_same; table_same = k.table_same ∙ i.lengths.table_same; out_same = k.out_same ∙ i.lengths.out_same };
     }

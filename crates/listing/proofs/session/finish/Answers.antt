@@ -18,7 +18,7 @@ pub returns-then-held-eq0 : goal.returns-then-held-eq0
 returns-then-held-eq0 c = finish_empty _ _ _ _ _ _ c.is_ready.ensures _ _ _ (ap not c.if-not-is_ready.false) c.held_in-held.ensures c.if-held-eq0.true c.counts.ensures
 
 pub list_line-listed-requires : goal.list_line-listed-requires
-list_line-listed-requires c = let r = (let z : let a = c.args in Ready a.line.now a.table.now a.out.now a.at = tested _ _ _ _ _ c.is_ready.ensures (ap not c.if-not-is_ready.false) in z) in (omega (arith, c.held_in-held.ensures, held_low c.args.session.held, r.line_length), r.table_length_lem, omega (arith, r.room))
+list_line-listed-requires c = let r = (let z : let a = c.args in Ready a.line.now a.table.now a.out.now a.at = tested _ _ _ _ _ c.is_ready.ensures (ap not c.if-not-is_ready.false) in z) in (omega (arith, c.held_in-held.ensures, held_low c.args.session.held, r.line_length), r.table_len, omega (arith, r.room))
 
 pub counts-requires-2 : goal.counts-requires-2
 counts-requires-2 c = let r = (let z : let a = c.args in Ready a.line.now a.table.now a.out.now a.at = tested _ _ _ _ _ c.is_ready.ensures (ap not c.if-not-is_ready.false) in z) in let l : length c.list_line-listed.new.out ≡ length c.args.out.now = search rules in omega (arith, c.list_line-listed.ensures.within, l, r.room)
