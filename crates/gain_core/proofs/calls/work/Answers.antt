@@ -19,6 +19,7 @@ use Rattle.gain_core.specs.declared.calls.Worked.TheVariants.{Settled, Unsettled
 use Rattle.gain_core.proofs.Unsettled.{all_answers}
 use borrow.Author.Rules.{rules}
 use Rattle.gain_core.proofs.calls.work.Goals as goal
+use Rattle.gain_core.proofs.calls.work.Goals.{After-without_row}
 
 module _ (antenna : Antenna) (fmc delta : Float) (e : Elevation) (height : Float) where
   abbrev ground : Bool
@@ -52,19 +53,22 @@ module _ (antenna : Antenna) (fmc delta : Float) (e : Elevation) (height : Float
     unfolding work_of above_ground
     above a zenith gain u g = rw (a, r, ← u, ← g)
 
+without : (c : After-without_row) → let s = c.args in c.without_row.result ≡ (le s.delta (num 0 1) && not (blends_with_zenith s.antenna.kop))
+unfolding round of_bits
+without c = rw (to_z-of_z w32 c.args.antenna.kop (search rules)) at c.without_row.ensures
+
 pub returns-then-without_row : goal.returns-then-without_row
 unfolding round of_bits
-returns-then-without_row c = all_answers _ _ _ _ _ _ (low_only _ _ _ _ _ _ _ refl refl (sym ((let z : let s = c.args in c.without_row.result ≡ (le s.delta (num 0 1) && not (blends_with_zenith s.antenna.kop)) = rw (to_z-of_z w32 c.args.antenna.kop (search rules)) at c.without_row.ensures in z)) ∙ c.if-without_row.true) _ (rw (to_z-of_z w32 c.args.antenna.kop (search rules)) at c.ground_gain-low.ensures))
+returns-then-without_row c = all_answers _ _ _ _ _ _ (low_only _ _ _ _ _ _ _ refl refl (sym (without (goal.at.returns-then-without_row c).After-without_row) ∙ c.if-without_row.true) _ (rw (to_z-of_z w32 c.args.antenna.kop (search rules)) at c.ground_gain-low.ensures))
 
 pub returns-in_default : goal.returns-in_default
-unfolding of_bits round
-returns-in_default c = all_answers _ _ _ _ _ _ (no_row _ _ _ _ _ _ _ refl refl (sym ((let z : let s = c.args in c.without_row.result ≡ (le s.delta (num 0 1) && not (blends_with_zenith s.antenna.kop)) = rw (to_z-of_z w32 c.args.antenna.kop (search rules)) at c.without_row.ensures in z)) ∙ c.if-without_row.false) (sym c.row_of.ensures.0 ∙ c.in_default.is))
+returns-in_default c = all_answers _ _ _ _ _ _ (no_row _ _ _ _ _ _ _ refl refl (sym (without (goal.at.returns-in_default c).After-without_row) ∙ c.if-without_row.false) (sym c.row_of.ensures.0 ∙ c.in_default.is))
 
 pub returns-then-delta : goal.returns-then-delta
 unfolding round of_bits
 returns-then-delta c =
     let low = c.if-delta.true in
-    all_answers _ _ _ _ _ _ (at_zenith _ _ _ _ _ _ _ (sym c.row_of.ensures.0 ∙ c.in-Settled.is) _ low refl (rw low at (sym ((let z : let s = c.args in c.without_row.result ≡ (le s.delta (num 0 1) && not (blends_with_zenith s.antenna.kop)) = rw (to_z-of_z w32 c.args.antenna.kop (search rules)) at c.without_row.ensures in z)) ∙ c.if-without_row.false)) _ _ _ (rw (to_z-of_z w32 c.args.antenna.kop (search rules)) at c.ground_gain-low-then-delta.ensures) c.zenith_gain.ensures c.blend.ensures)
+    all_answers _ _ _ _ _ _ (at_zenith _ _ _ _ _ _ _ (sym c.row_of.ensures.0 ∙ c.in-Settled.is) _ low refl (rw low at (sym (without (goal.at.returns-then-delta c).After-without_row) ∙ c.if-without_row.false)) _ _ _ (rw (to_z-of_z w32 c.args.antenna.kop (search rules)) at c.ground_gain-low-then-delta.ensures) c.zenith_gain.ensures c.blend.ensures)
 
 pub returns : goal.returns
 unfolding round of_bits
