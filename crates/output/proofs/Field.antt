@@ -1,12 +1,9 @@
 -- Laws of the integer field: its loops' invariants, its length, when it is stars. Assumes nothing.
-use Rattle.std.proofs.Common.{◌≡◌, ℕ, zero, suc, ◌+◌, ◌-◌, ◌*◌, ◌/◌, ◌%◌, ◌^◌, ◌<◌, ◌≤◌, Bool, true, false, cond, ltb, leb, List, [], ◌∷◌, ◌++◌, length, take, drop, set, replicate, ℤ, pos, negsuc, nat_abs, sym, refl, ap, ◌∙◌, subst, append-nil, zero-lt-suc, le-div_iff_mul-le, sub-one, arith, length-append, length-drop, length-set, length-take-le, le-ltb, lt-ltb, le-leb, leb-true}
+use Rattle.std.proofs.Common.{◌≡◌, ℕ, zero, suc, ◌+◌, ◌-◌, ◌*◌, ◌/◌, ◌%◌, ◌^◌, ◌<◌, ◌≤◌, Bool, true, false, cond, ltb, leb, List, [], ◌∷◌, ◌++◌, length, take, drop, set, replicate, ℤ, pos, negsuc, nat_abs, Option, Some, None, sym, refl, ap, ◌∙◌, subst, zero-lt-suc, le-div_iff_mul-le, sub-one, arith, length-append, length-drop, length-set, length-take-le, le-ltb, lt-ltb, le-leb, leb-true}
 use native.Mathlib.Nat.{one-le-pow, pow-succ'}
 use borrow.Author.Tests.{lt-leb}
 use lib.Seq.{drop-length}
-use borrow.Author.Fill.{fill_more}
 use lib.ListN.{length-replicate}
-use Rattle.output.specs.declared.writing.Start.{Start}
-use Rattle.output.specs.declared.writing.Start.TheVariants.{At, TooLong}
 use Rattle.output.specs.Placed.{Stands, Longer, Placed}
 use Rattle.output.specs.Field.{spelled, decimal, text, justified, integer_field}
 
@@ -81,31 +78,12 @@ full n d out rest i s z =
     let f : length (drop i out) ≡ length out = rw z refl in
     record { long = a; over = omega (arith, ap length e) }
 
--- ---- a loop that fills
-pub record Filled (b : ℕ) (d out : List ℕ) (i : ℕ) : Type 0 where
-  pub low : i ≤ length d
-  pub long : length out ≡ length d
-  pub is : out ≡ replicate i b ++ drop i d
-
-pub fill_step : (b : ℕ) (d out : List ℕ) (i : ℕ) → Filled b d out i → i < length out → Filled b d (set out i b) (i + 1)
-fill_step b d out i f h =
-    let l : length out ≡ length d = f.long in
-    let k : i < length d = omega arith in
-    record { low = omega arith; long = length-set out i b ∙ l; is = ap (λ (x : List ℕ). set x i b) f.is ∙ fill_more i b d k }
-
-pub fill_ends : (b : ℕ) (d out : List ℕ) (i : ℕ) → Filled b d out i → length out ≤ i → out ≡ replicate (length d) b
-fill_ends b d out i f h =
-    let l : length out ≡ length d = f.long in
-    let m : i ≤ length d = f.low in
-    let e : i ≡ length d = omega arith in
-    f.is ∙ rw (e, drop-length d, append-nil)
-
 -- ---- the whole field
-pub at : (n : ℕ) (d out : List ℕ) (r : Start) (i : ℕ) → Placed n d out r → r ≡ At i → Stands n d out i
-at n d out r i p e = subst (λ (x : Start). Placed n d out x) e p
+pub at : (n : ℕ) (d out : List ℕ) (r : Option ℕ) (i : ℕ) → Placed n d out r → r ≡ Some i → Stands n d out i
+at n d out r i p e = subst (λ (x : Option ℕ). Placed n d out x) e p
 
-pub too_long : (n : ℕ) (d out : List ℕ) (r : Start) → Placed n d out r → r ≡ TooLong → Longer n d out
-too_long n d out r p e = subst (λ (x : Start). Placed n d out x) e p
+pub too_long : (n : ℕ) (d out : List ℕ) (r : Option ℕ) → Placed n d out r → r ≡ None → Longer n d out
+too_long n d out r p e = subst (λ (x : Option ℕ). Placed n d out x) e p
 
 shorter : (v : ℤ) → length (decimal (nat_abs v)) ≤ length (text v)
 unfolding text

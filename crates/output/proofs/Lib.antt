@@ -1,4 +1,3 @@
-pub mod Signs
 pub mod Field
 pub mod Exact
 pub mod Answers

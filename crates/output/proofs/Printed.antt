@@ -1,8 +1,10 @@
 -- Laws of the hundredths' field. Assumes nothing.
-use Rattle.std.proofs.Common.{◌≡◌, ℕ, zero, suc, ◌+◌, ◌-◌, ◌*◌, ◌^◌, ◌<◌, ◌≤◌, Bool, true, false, cond, ltb, List, ◌∷◌, ◌++◌, length, set, replicate, ℤ, nat_abs, sym, refl, ap, ◌∙◌, zero-lt-suc, div-lt_iff_lt-mul, le-div_iff_mul-le, arith, w64, SFits, to_z, of_z, ltb-false, ltb-true, le-leb}
+use Rattle.std.proofs.Common.{◌≡◌, ℕ, ◌+◌, ◌-◌, ◌*◌, ◌^◌, ◌<◌, ◌≤◌, Bool, true, false, cond, ltb, List, [], length, take, drop, replicate, ℤ, nat_abs, sym, refl, ap, ◌∙◌, zero-lt-suc, div-lt_iff_lt-mul, le-div_iff_mul-le, arith, w64, SFits, to_z, of_z, ltb-false, ltb-true, le-leb, length-drop}
 use native.Mathlib.Nat.{pow-le-pow_right}
 use borrow.Author.Tests.{lt-leb}
-use lib.ListN.{length-replicate}
+use lib.ListN.{length-replicate, drop_of_length-le}
+use borrow.Rule.Slice.PartMut.{put_mid}
+use Rattle.std.proofs.lemmas.List.{take-replicate}
 use lib.Ieee.{Float, nan, inf, fin, up, down}
 use lib.Ieee.Fits.{down_pos}
 use mir.ValLaws.{to_z-of_z}
@@ -19,18 +21,13 @@ pub nan_short : (w : ℕ) (l : List ℕ) → w < 3 → l ≡ replicate w 42 → 
 unfolding justified
 nan_short w l h e = rw (lt-leb 3 w h) e
 
-letters : (k : ℕ) → set (set (set (replicate (suc (suc (suc k))) 32) k 78) (suc k) 97) (suc (suc k)) 78 ≡ replicate k 32 ++ nan_text
-letters zero = refl
-letters (suc k) = ap (λ (l : List ℕ). 32 ∷ l) (letters k)
-
-pub nan_long : (w : ℕ) (l : List ℕ) → 3 ≤ w → l ≡ replicate w 32 → set (set (set l (w - 3) 78) (w - 2) 97) (w - 1) 78 ≡ justified nan_text w
+pub nan_long : (w : ℕ) (l y : List ℕ) → 3 ≤ w → l ≡ replicate w 32 → y ≡ nan_text → put_mid (w - 3) (length l - (w - 3)) l y ≡ justified nan_text w
 unfolding justified
-nan_long w l h e =
-    let k = w - 3 in
-    let a : w ≡ suc (suc (suc k)) = omega arith in
-    let b : w - 2 ≡ suc k = omega arith in
-    let c : w - 1 ≡ suc (suc k) = omega arith in
-    rw (le-leb 3 w h, b, c, e) (ap (λ (n : ℕ). set (set (set (replicate n 32) k 78) (suc k) 97) (suc (suc k)) 78) a ∙ letters k)
+nan_long w l y h e f =
+    let m : length l ≡ w = ap length e ∙ length-replicate w 32 in
+    let front : take (w - 3) l ≡ replicate (w - 3) 32 = ap (take (w - 3)) e ∙ take-replicate (w - 3) w 32 (omega arith) in
+    let back : drop (length l - (w - 3)) (drop (w - 3) l) ≡ [] = drop_of_length-le (drop (w - 3) l) (omega (arith, length-drop (w - 3) l)) in
+    rw (le-leb 3 w h, back, front, f) refl
 
 -- ---- a whole number of hundredths fits an i64
 half_up_below : (a b : ℕ) → 0 < b → a < 2 ^ 56 * b → half_up (100 * a) b ≤ 100 * 2 ^ 56

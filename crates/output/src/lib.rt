@@ -1,3 +1,4 @@
+#![tactic(auto)]
 // Numbers written in columns: document 01 section 10.
 mod rounding;
 mod writing;

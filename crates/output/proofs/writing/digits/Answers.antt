@@ -2,17 +2,14 @@ use Rattle.std.proofs.Common.{arith}
 use Rattle.output.proofs.Field.{starts, more, ends, full}
 use Rattle.output.proofs.writing.digits.Goals as goal
 
-pub loop-rest-init : goal.loop-rest-init
-loop-rest-init c = starts _ _
+pub loop-i-init : goal.loop-i-init
+loop-i-init c = starts _ _
 
-pub returns-then-i-eq0 : goal.returns-then-i-eq0
-returns-then-i-eq0 c = full _ _ _ _ _ c.loop-rest.invariant c.if-i-eq0.true
+pub loop-i-preserved : goal.loop-i-preserved
+loop-i-preserved c = more _ _ _ _ _ c.loop-i.invariant c.if-rest-lt10.false c.loop-i-test.true
 
-pub loop-rest-preserved : goal.loop-rest-preserved
-loop-rest-preserved c = more _ _ _ _ _ c.loop-rest.invariant c.loop-rest-test.true (omega arith)
-
-pub returns-then-i-eq0-2 : goal.returns-then-i-eq0-2
-returns-then-i-eq0-2 c = full _ _ _ _ _ c.loop-rest.invariant c.if-i-eq0-2.true
+pub returns-then-rest-lt10 : goal.returns-then-rest-lt10
+returns-then-rest-lt10 c = ends _ _ _ _ _ c.loop-i.invariant c.if-rest-lt10.true c.loop-i-test.true
 
 pub returns : goal.returns
-returns c = ends _ _ _ _ _ c.loop-rest.invariant c.loop-rest-test.false (omega arith)
+returns c = full _ _ _ _ _ c.loop-i.invariant (omega arith)
