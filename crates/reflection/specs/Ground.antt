@@ -21,13 +21,13 @@ abbrev pub half : Float
 half = num 5 10
 
 -- er - cos^2 - jx: its real part, its magnitude and its phase
-unfoldable pub ert_of : Soil → Elevation → Float
+abbrev pub ert_of : Soil → Elevation → Float
 ert_of soil e = soil.er ⊟ e.t ⊠ e.t
 
-unfoldable pub rho_of : Soil → Elevation → Float
+abbrev pub rho_of : Soil → Elevation → Float
 rho_of soil e = let ert = ert_of soil e in root (ert ⊠ ert ⊞ soil.x ⊠ soil.x)
 
-unfoldable pub alpha_of : Soil → Elevation → Float
+abbrev pub alpha_of : Soil → Elevation → Float
 alpha_of soil e = neg (arctangent (soil.x ⊘ ert_of soil e))
 
 -- rho, rho12 and alpha
@@ -88,3 +88,7 @@ reflect_of soil e =
 -- the power of a wave with its image in the ground, which has c of its amplitude and this phase
 abbrev pub image_power : Float → Float → Float
 image_power c phase = c ⊠ c ⊞ num 1 1 ⊟ two ⊠ c ⊠ cosine phase
+
+-- that of a wave whose image lies hwave2 below it, at an elevation of sine q: of ch and psih, or of cv and psiv
+unfoldable pub with_image : Float → Float → Float → Float → Float
+with_image c psi hwave2 q = image_power c (psi ⊟ hwave2 ⊠ q)

@@ -37,12 +37,12 @@ struct Coefficient {
     phase: f32,
 }
 
+#[tactic(auto, unfolding(crate::specs::Ground::refraction_of))]
 fn refraction_of(soil: Soil, e: Elevation) -> Refraction
     ensures { result ≡ refraction_of soil e }
 {
     let Soil { er, x, .. } = soil;
-    let t = e.t;
-    let ert = er - t * t;
+    let ert = er - e.t * e.t;
     let rho = root::sqrt(ert * ert + x * x);
     let rho12 = root::sqrt(rho);
     let alpha = -elementary::atan(x / ert);
@@ -105,6 +105,7 @@ fn without_small_difference(cv: f32, ch: f32) -> f32
     cv
 }
 
+#[tactic(auto, unfolding(crate::specs::Ground::reflect_of))]
 pub fn reflect(soil: Soil, e: Elevation) -> Ground
     ensures { result ≡ reflect_of soil e }
 {

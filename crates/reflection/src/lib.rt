@@ -1,6 +1,9 @@
+#![tactic(auto)]
 // The ground's reflection: `iongain2` down to the match.
 mod ground;
+mod image;
 mod soil;
 
 pub use ground::{Ground, reflect};
+pub use image::with_image;
 pub use soil::{Soil, soil_of};
