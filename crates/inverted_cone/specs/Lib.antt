@@ -1,2 +1,1 @@
 pub mod InvertedCone
-pub mod Corners

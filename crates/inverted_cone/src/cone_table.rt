@@ -1,17 +1,17 @@
 // The inverted cone's measured gains and their axes.
 // MHz.
-pub(crate) const CONE_FREQS: [f32; 22] = [
+pub(crate) static CONE_FREQS: [f32; 22] = [
     2.0, 4.0, 5.0, 6.0, 7.0, 8.0, 9.0, 10.0, 11.0, 12.0, 13.0, 14.0, 15.0, 16.0, 17.0, 18.0, 20.0,
     22.0, 24.0, 26.0, 28.0, 30.0,
 ];
 
 // Degrees.
-pub(crate) const CONE_ELEVS: [f32; 13] = [
+pub(crate) static CONE_ELEVS: [f32; 13] = [
     0.0, 5.0, 10.0, 15.0, 20.0, 25.0, 30.0, 35.0, 40.0, 45.0, 50.0, 55.0, 90.0,
 ];
 
 // dB: a row for each elevation, across the frequencies.
-pub(crate) const CONE: [[f32; 22]; 13] = [
+pub(crate) static CONE: [[f32; 22]; 13] = [
     [-20.0; 22],
     [
         -9.0, -7.0, -8.2, -8.6, -8.8, -8.3, -7.7, -7.7, -8.3, -8.3, -8.0, -8.0, -8.8, -10.0, -10.0,

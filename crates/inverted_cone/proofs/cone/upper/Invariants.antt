@@ -6,6 +6,3 @@ use Rattle.inverted_cone.proofs.cone.upper.Given as goal
 
 abbrev pub invariant-loop-i : goal.invariant-loop-i
 invariant-loop-i l = (1 ≤ l.i) × (l.i < length l.bounds) × (1 ≤ l.found) × (l.found < length l.bounds) × (l.found ≡ upper_from l.x l.i (drop l.i l.bounds))
-
-abbrev pub decreases-loop-i : goal.decreases-loop-i
-decreases-loop-i l = l.i
