@@ -1,12 +1,12 @@
 -- Document 01 section 9, `invcon`: the inverted cone. Definitions only.
-use Rattle.std.specs.Prelude.{ℕ, suc, ◌-◌, cond, List, [], ◌∷◌, eqb, get_or, drop, replicate, Float}
+use Rattle.std.specs.Prelude.{ℕ, suc, ◌-◌, cond, List, [], ◌∷◌, eqb, get_or, drop, replicate, Float, Result}
 use Rattle.std.specs.Float.{nan}
 use Rattle.std.specs.Float.Ieee.{neg, le}
 use Rattle.single.specs.Single.{◌⊞◌, ◌⊟◌, ◌⊠◌, ◌⊘◌, num, whole}
 use Rattle.limits.specs.Refusals.{Test, first_refusal}
 use Rattle.limits.specs.Tests.{any_outside, numbers_test}
-use Rattle.inverted_cone.specs.declared.cone.ConeGain.{ConeGain}
-use Rattle.inverted_cone.specs.declared.cone.ConeGain.TheVariants.{Accepted, Refused}
+use Rattle.refusals.specs.declared.Refusal.{Refusal}
+use Rattle.refusals.specs.Refusals.{answered, outcome_number, outcome_values}
 
 -- tenths of either sign
 abbrev pub plus : ℕ → Float
@@ -71,13 +71,11 @@ cone_value freq elev =
     interp_of g1 g2 fwt
 
 -- document 01's number and value for each case of an answer
-unfoldable pub cone_gain_number : ConeGain → ℕ
-cone_gain_number (Accepted v) = 0
-cone_gain_number (Refused n) = n
+abbrev pub cone_gain_number : Result Float Refusal → ℕ
+cone_gain_number = outcome_number
 
-unfoldable pub cone_gain_value : ConeGain → Float
-cone_gain_value (Accepted v) = v
-cone_gain_value (Refused n) = num 0 1
+abbrev pub cone_gain_value : Result Float Refusal → Float
+cone_gain_value = outcome_values (num 0 1)
 
 abbrev pub cone_tests : Float → Float → List Test
 cone_tests freq elev = numbers_test (any_outside (freq ∷ elev ∷ [])) ∷ []
@@ -86,9 +84,8 @@ unfoldable pub invcon_number : Float → Float → ℕ
 invcon_number freq elev = first_refusal (cone_tests freq elev)
 
 -- the whole answer
-unfoldable pub invcon_of : Float → Float → ConeGain
-invcon_of freq elev =
-    let refusal = invcon_number freq elev in cond (eqb refusal 0) (Accepted (cone_value freq elev)) (Refused refusal)
+unfoldable pub invcon_of : Float → Float → Result Float Refusal
+invcon_of freq elev = answered (invcon_number freq elev) (cone_value freq elev)
 
 unfoldable pub invcon_value : Float → Float → Float
 invcon_value freq elev = cond (eqb (invcon_number freq elev) 0) (cone_value freq elev) (num 0 1)

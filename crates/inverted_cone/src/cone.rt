@@ -1,16 +1,10 @@
-#![tactic(auto)]
 // `invcon`: a measured table, interpolated in elevation and frequency.
 ghost use Rattle.std.specs.Prelude.{◌≡◌, ◌<◌, ◌≤◌, length};
 ghost use Rattle.inverted_cone.specs.InvertedCone.{weight_of, interp_of, upper_of, cone_value};
 ghost use Rattle.inverted_cone.specs.InvertedCone.{cone_gain_number, cone_gain_value, invcon_number, invcon_of, invcon_value};
 
 use crate::cone_table::{CONE, CONE_ELEVS, CONE_FREQS};
-
-#[derive(Clone, Copy)]
-pub enum ConeGain {
-    Accepted(f32),
-    Refused(u32),
-}
+use refusals::Refusal;
 
 fn interp(a: f32, b: f32, c: f32) -> f32
     ensures { result ≡ interp_of a b c }
@@ -18,6 +12,7 @@ fn interp(a: f32, b: f32, c: f32) -> f32
     a * (1.0 - c) + b * c
 }
 
+#[tactic(auto, unfolding(crate::specs::InvertedCone::weight_of))]
 fn weight(a: f32, b: f32, c: f32) -> f32
     ensures { result ≡ weight_of a b c }
 {
@@ -52,13 +47,13 @@ fn cone_value(freq: f32, elev_deg: f32) -> f32
 }
 
 // At freq MHz and an elevation of elev_deg degrees.
-pub fn invcon(freq: f32, elev_deg: f32) -> ConeGain
+pub fn invcon(freq: f32, elev_deg: f32) -> Result<f32, Refusal>
     ensures value { result ≡ invcon_of freq elev_deg }
     ensures number { cone_gain_number result ≡ invcon_number freq elev_deg }
     ensures gain { cone_gain_value result ≡ invcon_value freq elev_deg }
 {
     if limits::any_outside(&[freq, elev_deg]) {
-        return ConeGain::Refused(2);
+        return Err(Refusal::Number);
     }
-    ConeGain::Accepted(cone_value(freq, elev_deg))
+    Ok(cone_value(freq, elev_deg))
 }

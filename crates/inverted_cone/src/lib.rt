@@ -1,5 +1,6 @@
+#![tactic(auto)]
 // The inverted cone: document 01 section 9.
 mod cone;
 mod cone_table;
 
-pub use cone::{ConeGain, invcon};
+pub use cone::invcon;

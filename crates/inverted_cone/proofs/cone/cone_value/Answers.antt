@@ -1,4 +1,3 @@
-use mathlib.Core.Path.{◌≡◌}
 use lib.Ieee.{round, of_bits, of_int, neg}
 use Rattle.inverted_cone.specs.InvertedCone.{cone_freqs, cone_elevs, cone, cone_at, cone_value}
 use Rattle.inverted_cone.proofs.cone.cone_value.Goals as goal
