@@ -1,3 +1,4 @@
+#![tactic(auto)]
 // The sines of a table's columns, the elevations of 0 to 90 degrees, from a table: document 02, C-12.
 ghost use Rattle.std.specs.Prelude.{◌≡◌};
 ghost use Rattle.column_sines.specs.ColumnSines.{column_sines};
@@ -6,7 +7,7 @@ use table::COLUMNS;
 
 // As the oracle's `lists column_sines` prints them. Each has the bits that `elementary::sin` gives:
 // `sine_entry`, proofs/ColumnSines.antt.
-const SINES: [f32; COLUMNS] = [
+static SINES: [f32; COLUMNS] = [
     0.0,
     0.017452406,
     0.034899496,
@@ -100,7 +101,8 @@ const SINES: [f32; COLUMNS] = [
     1.0,
 ];
 
-// All at once, since a constant array is built anew at each use: a filling asks for them once a card.
+// All at once: a filling asks for them once a card.
+#[tactic(auto, unfolding(crate::specs::ColumnSines::column_sines, crate::specs::ColumnSines::sine_bits))]
 pub fn column_sines() -> [f32; COLUMNS]
     ensures { result ≡ column_sines }
 {
