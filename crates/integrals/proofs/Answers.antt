@@ -1,26 +1,23 @@
 -- Number and values together tell answers apart, so that `cisi`'s contract gives its answer whole; it accepts exactly what is within the limits and settles. Assumes nothing.
-use mathlib.Core.Path.{◌≡◌, refl, ap}
+use mathlib.Core.Path.{◌≡◌, refl, sym, ap, ◌∙◌}
 use mathlib.Core.Bool.{Bool, true, false, cond, ◌&&◌}
 use mathlib.Core.Logic.{◌↔◌}
 use native.Mathlib.Omega.{arith}
 use lib.Ieee.{Float}
+use Rattle.std.specs.Prelude.{Result, Ok, Err}
 use Rattle.single.proofs.Booleans.{holds}
+use Rattle.refusals.specs.declared.Refusal.{Refusal}
+use Rattle.refusals.specs.Refusals.{refusal_of, outcome_number, outcome_values}
+use Rattle.refusals.proofs.Refusals.{refusal_of_number, number_positive}
 use Rattle.integrals.specs.Settled.{settled_number}
-use Rattle.integrals.specs.Cisi.{answer_number, answer_values, in_limits, integrals_settle, cisi_number}
-use Rattle.integrals.specs.declared.entry.Answer.{Answer}
-use Rattle.integrals.specs.declared.entry.Answer.TheVariants.{Accepted, OutsideLimits, Unsettled}
+use Rattle.integrals.specs.Cisi.{zeros, in_limits, integrals_settle, cisi_number}
+use Rattle.integrals.specs.declared.rational.Integrals.{Integrals}
 
-pub answer_unique : (a b : Answer) → answer_number a ≡ answer_number b → answer_values a ≡ answer_values b → a ≡ b
-unfolding answer_number answer_values
-answer_unique (Accepted v) (Accepted w) n e = ap Accepted e
-answer_unique (Accepted v) OutsideLimits n e = absurd (omega arith)
-answer_unique (Accepted v) Unsettled n e = absurd (omega arith)
-answer_unique OutsideLimits (Accepted w) n e = absurd (omega arith)
-answer_unique OutsideLimits OutsideLimits n e = refl
-answer_unique OutsideLimits Unsettled n e = absurd (omega arith)
-answer_unique Unsettled (Accepted w) n e = absurd (omega arith)
-answer_unique Unsettled OutsideLimits n e = absurd (omega arith)
-answer_unique Unsettled Unsettled n e = refl
+pub answer_unique : (a b : Result Integrals Refusal) → outcome_number a ≡ outcome_number b → outcome_values zeros a ≡ outcome_values zeros b → a ≡ b
+answer_unique (Ok v) (Ok w) n e = ap Ok e
+answer_unique (Ok v) (Err f) n e = absurd (omega (arith, number_positive f))
+answer_unique (Err e) (Ok w) n v = absurd (omega (arith, number_positive e))
+answer_unique (Err e) (Err f) n v = ap Err (sym (refusal_of_number e) ∙ ap refusal_of n ∙ refusal_of_number f)
 
 pub zero_none_of_cisi : (x : Float) → (cisi_number x ≡ 0) ↔ ((in_limits x && integrals_settle x) ≡ true)
 unfolding cisi_number

@@ -1,54 +1,34 @@
 -- Document 01 section 3: `cisi`, with its refusals 6 and 11. Definitions only.
-use Rattle.std.specs.Prelude.{ℕ, Bool, true, cond, ◌&&◌, Float}
+use Rattle.std.specs.Prelude.{ℕ, Bool, true, cond, ◌&&◌, Float, Option, Some, Result}
 use Rattle.std.specs.Float.Ieee.{lt, le}
 use Rattle.single.specs.Single.{num}
-use Rattle.integrals.specs.Settled.{settled_number}
+use Rattle.refusals.specs.declared.Refusal.{Refusal}
+use Rattle.refusals.specs.Refusals.{answered}
+use Rattle.integrals.specs.Settled.{settled_number, settled_value, settled_both}
 use Rattle.integrals.specs.Series.{ci_series, si_series, ci_settles, si_settles}
 use Rattle.integrals.specs.Rational.{rational_of}
 use Rattle.integrals.specs.declared.series.SeriesSum.{SeriesSum}
-use Rattle.integrals.specs.declared.series.SeriesSum.TheVariants as Sum
 use Rattle.integrals.specs.declared.rational.Integrals.{Integrals}
-use Rattle.integrals.specs.declared.entry.Computed.{Computed}
-use Rattle.integrals.specs.declared.entry.Computed.TheVariants as Core
-use Rattle.integrals.specs.declared.entry.Answer.{Answer}
-use Rattle.integrals.specs.declared.entry.Answer.TheVariants as Public
+use Rattle.integrals.specs.declared.settled.Turns.{Turns}
+use Rattle.integrals.specs.declared.settled.Settled.{Settled}
 
--- both series, where both settled
-abbrev pub both_of : SeriesSum → SeriesSum → Computed
-both_of (Sum.Settled ci n) (Sum.Settled si m) = Core.Settled (record { ci = ci; si = si }) (record { ci = n; si = m })
-both_of (Sum.Settled ci n) Sum.Unsettled = Core.Unsettled
-both_of Sum.Unsettled b = Core.Unsettled
+abbrev pub both_of : SeriesSum → SeriesSum → Settled Integrals
+both_of a b = record { value = record { ci = a.sum; si = b.sum }; turns = record { ci = a.turns; si = b.turns } }
+
+abbrev pub no_turns : Turns
+no_turns = record { ci = 0; si = 0 }
 
 -- series below 1, rational form from 1
-unfoldable pub integrals_of : Float → Computed
-integrals_of x = cond (lt x (num 1 1)) (both_of (ci_series x) (si_series x)) (Core.Settled (rational_of x) (record { ci = 0; si = 0 }))
+unfoldable pub integrals_of : Float → Option (Settled Integrals)
+integrals_of x =
+    cond (lt x (num 1 1)) (settled_both both_of (ci_series x) (si_series x)) (Some (record { value = rational_of x; turns = no_turns }))
 
 -- the rational form always settles
 unfoldable pub integrals_settle : Float → Bool
 integrals_settle x = cond (lt x (num 1 1)) (ci_settles x && si_settles x) true
 
--- document 01's number and values of what was computed
 abbrev pub zeros : Integrals
 zeros = record { ci = num 0 1; si = num 0 1 }
-
-unfoldable pub computed_number : Computed → ℕ
-computed_number (Core.Settled v n) = 0
-computed_number Core.Unsettled = 11
-
-unfoldable pub computed_values : Computed → Integrals
-computed_values (Core.Settled v n) = v
-computed_values Core.Unsettled = zeros
-
--- and of `cisi`'s answer
-unfoldable pub answer_number : Answer → ℕ
-answer_number (Public.Accepted v) = 0
-answer_number Public.OutsideLimits = 6
-answer_number Public.Unsettled = 11
-
-unfoldable pub answer_values : Answer → Integrals
-answer_values (Public.Accepted v) = v
-answer_values Public.OutsideLimits = zeros
-answer_values Public.Unsettled = zeros
 
 -- finite, from 0 to 1,048,576: every comparison with a NaN is false
 unfoldable pub in_limits : Float → Bool
@@ -58,12 +38,8 @@ unfoldable pub cisi_number : Float → ℕ
 cisi_number x = cond (in_limits x) (settled_number (integrals_settle x)) 6
 
 unfoldable pub cisi_values : Float → Integrals
-cisi_values x = cond (in_limits x) (computed_values (integrals_of x)) zeros
+cisi_values x = cond (in_limits x) (settled_value zeros (integrals_of x)) zeros
 
 -- the whole answer
-abbrev pub public_of : Computed → Answer
-public_of (Core.Settled v n) = Public.Accepted v
-public_of Core.Unsettled = Public.Unsettled
-
-unfoldable pub cisi_of : Float → Answer
-cisi_of x = cond (in_limits x) (public_of (integrals_of x)) Public.OutsideLimits
+unfoldable pub cisi_of : Float → Result Integrals Refusal
+cisi_of x = answered (cisi_number x) (cisi_values x)

@@ -1,11 +1,10 @@
 -- Document 01 section 3: the two series, turn by turn. Definitions only.
-use Rattle.std.specs.Prelude.{ℕ, zero, suc, ◌+◌, Bool, true, false, ◌||◌, Float}
+use Rattle.std.specs.Prelude.{ℕ, zero, suc, ◌+◌, Bool, true, false, ◌||◌, Float, Option, Some, None}
 use Rattle.std.specs.Float.Ieee.{neg, le}
 use Rattle.single.specs.Single.{◌⊞◌, ◌⊟◌, ◌⊠◌, ◌⊘◌, num}
 use Rattle.elementary.specs.Basic.{absolute}
 use Rattle.elementary.specs.Logarithm.{logarithm}
 use Rattle.integrals.specs.declared.series.SeriesSum.{SeriesSum}
-use Rattle.integrals.specs.declared.series.SeriesSum.TheVariants.{Settled, Unsettled}
 
 abbrev pub most_turns : ℕ
 most_turns = 8
@@ -19,15 +18,15 @@ abbrev pub small : Float → Bool
 small term = le (absolute term) (num 5 100000)
 
 -- The series from a turn on: `left` turns may still be made, `n` were made. `ends`: the last one left a small term.
-unfoldable pub series_from : ℕ → Bool → ℕ → Float → Float → Float → Float → SeriesSum
-series_from zero true n sum term g sq = Settled sum n
-series_from zero false n sum term g sq = Unsettled
-series_from (suc left) true n sum term g sq = Settled sum n
+unfoldable pub series_from : ℕ → Bool → ℕ → Float → Float → Float → Float → Option SeriesSum
+series_from zero true n sum term g sq = Some (record { sum = sum; turns = n })
+series_from zero false n sum term g sq = None
+series_from (suc left) true n sum term g sq = Some (record { sum = sum; turns = n })
 series_from (suc left) false n sum term g sq =
     let next = next_term term sq g in
     series_from left (small next) (n + 1) (sum ⊞ term) next (g ⊞ num 2 1) sq
 
-unfoldable pub series_of : Float → Float → Float → Float → SeriesSum
+unfoldable pub series_of : Float → Float → Float → Float → Option SeriesSum
 unfolding series_from
 series_of first start from sq = series_from most_turns false 0 first start from sq
 
@@ -35,10 +34,10 @@ series_of first start from sq = series_from most_turns false 0 first start from 
 abbrev pub euler : Float
 euler = num 5772156649 10000000000
 
-unfoldable pub ci_series : Float → SeriesSum
+unfoldable pub ci_series : Float → Option SeriesSum
 ci_series x = let sq = x ⊠ x in series_of (euler ⊞ logarithm x) (neg sq ⊘ num 4 1) (num 4 1) sq
 
-unfoldable pub si_series : Float → SeriesSum
+unfoldable pub si_series : Float → Option SeriesSum
 si_series x = series_of (num 0 1) x (num 3 1) (x ⊠ x)
 
 -- ---- refusal 11
@@ -56,11 +55,7 @@ unfoldable pub si_settles : Float → Bool
 unfolding settles_within
 si_settles x = settles_within most_turns x (num 3 1) (x ⊠ x)
 
--- document 01's number of a series' answer, and its sum: 0 where it is refused
-unfoldable pub series_number : SeriesSum → ℕ
-series_number (Settled sum turns) = 0
-series_number Unsettled = 11
-
-unfoldable pub series_value : SeriesSum → Float
-series_value (Settled sum turns) = sum
-series_value Unsettled = num 0 1
+-- a series' sum: 0 where it is refused
+unfoldable pub series_value : Option SeriesSum → Float
+series_value (Some s) = s.sum
+series_value None = num 0 1

@@ -1,67 +1,47 @@
 // `cisi`, over the series and the rational form.
 ghost use Rattle.std.specs.Prelude.{◌≡◌};
-ghost use Rattle.integrals.specs.Cisi.{integrals_of, integrals_settle, computed_number, computed_values, zeros};
-ghost use Rattle.integrals.specs.Cisi.{answer_number, answer_values, cisi_number, cisi_of, cisi_values};
+ghost use Rattle.refusals.specs.Refusals.{outcome_number, outcome_values};
+ghost use Rattle.integrals.specs.Settled.{unsettled_number, settled_value};
+ghost use Rattle.integrals.specs.Cisi.{integrals_of, integrals_settle, zeros, cisi_number, cisi_of, cisi_values};
 ghost use Rattle.single.specs.Answer.{IsAnswer};
 
 use crate::rational::{Integrals, rational};
-use crate::series::{SeriesSum, ci_series, si_series};
-
-// The turns of each series; 0 for the rational form.
-#[derive(Clone, Copy)]
-pub struct Turns {
-    pub ci: u32,
-    pub si: u32,
-}
-
-// Of any f32.
-#[derive(Clone, Copy)]
-pub enum Computed {
-    Settled(Integrals, Turns),
-    Unsettled,
-}
-
-// Of an argument that may be outside the limits.
-#[derive(Clone, Copy)]
-pub enum Answer {
-    Accepted(Integrals),
-    OutsideLimits,
-    Unsettled,
-}
+use crate::series::{ci_series, si_series};
+use crate::settled::{Settled, Turns};
+use refusals::Refusal;
 
 // What gain calls take: no limits on the argument.
-pub fn integrals_of(x: f32) -> Computed
-    ensures { IsAnswer computed_number computed_values zeros 11 (integrals_of x) (integrals_settle x) result }
+pub fn integrals_of(x: f32) -> Option<Settled<Integrals>>
+    ensures { IsAnswer unsettled_number (settled_value zeros) zeros 11 (integrals_of x) (integrals_settle x) result }
 {
     if x < 1.0 {
-        let SeriesSum::Settled(ci, ci_turns) = ci_series(x) else {
-            return Computed::Unsettled;
-        };
-        let SeriesSum::Settled(si, si_turns) = si_series(x) else {
-            return Computed::Unsettled;
-        };
-        return Computed::Settled(
-            Integrals { ci, si },
-            Turns {
-                ci: ci_turns,
-                si: si_turns,
+        let ci = ci_series(x)?;
+        let si = si_series(x)?;
+        return Some(Settled {
+            value: Integrals {
+                ci: ci.sum,
+                si: si.sum,
             },
-        );
+            turns: Turns {
+                ci: ci.turns,
+                si: si.turns,
+            },
+        });
     }
-    let values = rational(x);
-    Computed::Settled(values, Turns { ci: 0, si: 0 })
+    Some(Settled {
+        value: rational(x),
+        turns: Turns::NONE,
+    })
 }
 
-pub fn cisi(x: f32) -> Answer
-    ensures { (result ≡ cisi_of x) × (answer_number result ≡ cisi_number x) × (answer_values result ≡ cisi_values x) }
+pub fn cisi(x: f32) -> Result<Integrals, Refusal>
+    ensures { (result ≡ cisi_of x) × (outcome_number result ≡ cisi_number x) × (outcome_values zeros result ≡ cisi_values x) }
 {
-    if 0.0 <= x {
-        if x <= 1048576.0 {
-            let Computed::Settled(values, _) = integrals_of(x) else {
-                return Answer::Unsettled;
-            };
-            return Answer::Accepted(values);
-        }
+    if 0.0 <= x && x <= 1048576.0 {
+        let Some(computed) = integrals_of(x) else {
+            return Err(Refusal::Unsettled);
+        };
+        return Ok(computed.value);
     }
-    Answer::OutsideLimits
+    Err(Refusal::Argument)
 }

@@ -1,9 +1,12 @@
+#![tactic(auto)]
 // The cosine and sine integrals: document 01 section 3.
 mod entry;
 mod pair;
 mod rational;
 mod series;
+mod settled;
 
-pub use entry::{Answer, Computed, Turns, cisi, integrals_of};
-pub use pair::{IntegralPair, integral_pair};
+pub use entry::{cisi, integrals_of};
+pub use pair::integral_pair;
 pub use rational::Integrals;
+pub use settled::{Settled, Turns};

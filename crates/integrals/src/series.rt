@@ -1,6 +1,7 @@
 // The two series, for arguments below 1.
 ghost use Rattle.std.specs.Prelude.{◌≡◌};
-ghost use Rattle.integrals.specs.Series.{series_of, ci_series, si_series, ci_settles, si_settles, series_number, series_value};
+ghost use Rattle.integrals.specs.Settled.{unsettled_number};
+ghost use Rattle.integrals.specs.Series.{series_of, ci_series, si_series, ci_settles, si_settles, series_value};
 ghost use Rattle.single.specs.Answer.{IsAnswer};
 ghost use Rattle.single.specs.Single.{num};
 
@@ -9,13 +10,13 @@ const MOST_TURNS: u32 = 8;
 
 // A settled sum with the turns made.
 #[derive(Clone, Copy)]
-pub enum SeriesSum {
-    Settled(f32, u32),
-    Unsettled,
+pub struct SeriesSum {
+    pub sum: f32,
+    pub turns: u32,
 }
 
 // `first` and the terms from `start` on, until one is small.
-fn sum_series(first: f32, start: f32, from: f32, sq: f32) -> SeriesSum
+fn sum_series(first: f32, start: f32, from: f32, sq: f32) -> Option<SeriesSum>
     ensures { result ≡ series_of first start from sq }
 {
     let mut sum = first;
@@ -28,23 +29,23 @@ fn sum_series(first: f32, start: f32, from: f32, sq: f32) -> SeriesSum
         g = g + 2.0;
         turns = turns + 1;
         if elementary::abs(term) <= 0.00005 {
-            break SeriesSum::Settled(sum, turns);
+            break Some(SeriesSum { sum, turns });
         }
         if MOST_TURNS <= turns {
-            break SeriesSum::Unsettled;
+            break None;
         }
     }
 }
 
-pub(crate) fn ci_series(x: f32) -> SeriesSum
-    ensures { IsAnswer series_number series_value (num 0 1) 11 (ci_series x) (ci_settles x) result }
+pub(crate) fn ci_series(x: f32) -> Option<SeriesSum>
+    ensures { IsAnswer unsettled_number series_value (num 0 1) 11 (ci_series x) (ci_settles x) result }
 {
     let sq = x * x;
     sum_series(0.5772156649 + elementary::ln(x), -sq / 4.0, 4.0, sq)
 }
 
-pub(crate) fn si_series(x: f32) -> SeriesSum
-    ensures { IsAnswer series_number series_value (num 0 1) 11 (si_series x) (si_settles x) result }
+pub(crate) fn si_series(x: f32) -> Option<SeriesSum>
+    ensures { IsAnswer unsettled_number series_value (num 0 1) 11 (si_series x) (si_settles x) result }
 {
     sum_series(0.0, x, 3.0, x * x)
 }

@@ -1,20 +1,26 @@
 use lib.Ieee.{round, of_bits}
 use Rattle.integrals.specs.Cisi.{integrals_of}
-use Rattle.integrals.proofs.Settled.{integrals_answers}
+use Rattle.integrals.proofs.Refusal.{integrals_answers}
 use Rattle.integrals.proofs.entry.integrals_of.Goals as goal
 
-pub returns-in_default : goal.returns-in_default
+pub returns-in_err-ci : goal.returns-in_err-ci
 unfolding integrals_of round of_bits
-returns-in_default c = integrals_answers c.args.x _ (rw (c.if-x.true, ← c.ci_series.ensures.0, c.in_default.is))
+returns-in_err-ci c = integrals_answers c.args.x _ (rw (c.if-x.true, ← c.ci_series.ensures.0, c.in_err-ci.was) c.from_residual.ensures)
 
-pub returns-in_default-si_series : goal.returns-in_default-si_series
+pub returns-in_err-si : goal.returns-in_err-si
 unfolding integrals_of round of_bits
-returns-in_default-si_series c = integrals_answers c.args.x _ (rw (c.if-x.true, ← c.ci_series.ensures.0, c.in-Settled.is, ← c.si_series.ensures.0, c.in_default-si_series.is))
+returns-in_err-si c = integrals_answers c.args.x _ (rw (
+  c.if-x.true,
+  ← c.ci_series.ensures.0,
+  c.in_ok-ci.was,
+  ← c.si_series.ensures.0,
+  c.in_err-si.was,
+) c.from_residual-in_err-si.ensures)
 
 pub returns-then-x : goal.returns-then-x
 unfolding integrals_of round of_bits
-returns-then-x c = integrals_answers c.args.x _ (rw (c.if-x.true, ← c.ci_series.ensures.0, c.in-Settled.is, ← c.si_series.ensures.0, c.in-Settled-si_series.is))
+returns-then-x c = integrals_answers c.args.x _ (rw (c.if-x.true, ← c.ci_series.ensures.0, c.in_ok-ci.was, ← c.si_series.ensures.0, c.in_ok-si.was))
 
 pub returns : goal.returns
 unfolding integrals_of round of_bits
-returns c = integrals_answers c.args.x _ (rw (c.if-x.false, ← c.rational-values.ensures))
+returns c = integrals_answers c.args.x _ (rw (c.if-x.false, ← c.rational.ensures))

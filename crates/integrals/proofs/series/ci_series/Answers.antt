@@ -1,6 +1,6 @@
 use lib.Ieee.{round, of_bits}
 use Rattle.integrals.specs.Series.{ci_series}
-use Rattle.integrals.proofs.Settled.{ci_answers}
+use Rattle.integrals.proofs.Refusal.{ci_answers}
 use Rattle.integrals.proofs.series.ci_series.Goals as goal
 
 pub returns : goal.returns

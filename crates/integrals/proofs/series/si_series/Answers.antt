@@ -1,6 +1,6 @@
 use lib.Ieee.{round, of_bits}
 use Rattle.integrals.specs.Series.{si_series}
-use Rattle.integrals.proofs.Settled.{si_answers}
+use Rattle.integrals.proofs.Refusal.{si_answers}
 use Rattle.integrals.proofs.series.si_series.Goals as goal
 
 pub returns : goal.returns

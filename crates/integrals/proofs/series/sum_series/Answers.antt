@@ -4,19 +4,19 @@ use mathlib.Core.Path.{◌≡◌, refl, sym, ◌∙◌}
 use mathlib.Core.Bool.{Bool, true, false}
 use native.Mathlib.Omega.{arith}
 use lib.Ieee.{Float, le, round, of_bits}
+use Rattle.std.specs.Prelude.{Option, Some, None}
 use Rattle.single.specs.Single.{◌⊞◌, num}
 use Rattle.elementary.specs.Basic.{absolute}
 use Rattle.integrals.specs.declared.series.SeriesSum.{SeriesSum}
-use Rattle.integrals.specs.declared.series.SeriesSum.TheVariants.{Settled, Unsettled}
 use Rattle.integrals.specs.Series.{most_turns, series_from, series_of, next_term}
 use Rattle.integrals.proofs.series.sum_series.Goals as goal
 
-settled : (m n : ℕ) (sum term g sq : Float) → series_from m true n sum term g sq ≡ Settled sum n
+settled : (m n : ℕ) (sum term g sq : Float) → series_from m true n sum term g sq ≡ Some (record { sum = sum; turns = n })
 unfolding series_from
 settled zero n sum term g sq = refl
 settled (suc m) n sum term g sq = refl
 
-module _ (k : ℕ) (sum term g sq a : Float) (r : SeriesSum) (below : k < most_turns) (e : a ≡ absolute (next_term term sq g))
+module _ (k : ℕ) (sum term g sq a : Float) (r : Option SeriesSum) (below : k < most_turns) (e : a ≡ absolute (next_term term sq g))
     (inv : series_from (most_turns - k) false k sum term g sq ≡ r) where
   -- what the series comes to before a turn, it comes to after it
   turn : (b : Bool) → le a (num 5 100000) ≡ b →
@@ -26,10 +26,10 @@ module _ (k : ℕ) (sum term g sq a : Float) (r : SeriesSum) (below : k < most_t
       let left : most_turns - k ≡ suc (most_turns - (k + 1)) = omega arith in
       rw (← t, e) (rw left at inv)
 
-  stop : le a (num 5 100000) ≡ true → Settled (sum ⊞ term) (k + 1) ≡ r
+  stop : le a (num 5 100000) ≡ true → Some (record { sum = sum ⊞ term; turns = k + 1 }) ≡ r
   stop t = sym (settled (most_turns - (k + 1)) (k + 1) (sum ⊞ term) (next_term term sq g) (g ⊞ num 2 1) sq) ∙ turn true t
 
-  fail : le a (num 5 100000) ≡ false → most_turns ≤ k + 1 → Unsettled ≡ r
+  fail : le a (num 5 100000) ≡ false → most_turns ≤ k + 1 → None ≡ r
   unfolding series_from
   fail t h =
       let none : most_turns - (k + 1) ≡ 0 = omega arith in
@@ -56,9 +56,3 @@ unfolding round of_bits
 returns-then-turns-ge-MOST_TURNS c =
     let l = c.loop in
     fail _ _ _ _ _ _ _ l.invariant.0 c.abs.ensures l.invariant.1 c.if-abs.false c.if-turns-ge-MOST_TURNS.true
-
-pub overflow_add-turns : goal.overflow_add-turns
-overflow_add-turns c = omega arith
-
-pub loop-smaller : goal.loop-smaller
-loop-smaller c = omega arith
