@@ -1,19 +1,11 @@
--- `is_finite`'s test between the infinities is the definition's.
-use mathlib.Core.Path.{◌≡◌, refl, sym}
-use mathlib.Core.Bool.{true, false}
-use lib.Ieee.{Float, nan, inf, fin, lt}
+-- std's test and the definition's are the same.
+use mathlib.Core.Path.{◌≡◌, refl}
+use lib.Ieee.{Float, nan, inf, fin}
 use lib.Ieee.Scale.{finite}
+use Rattle.std.specs.Float.{float_is_finite}
 
-pub below_top : (x : Float) → lt x (inf false) ≡ true → lt (inf true) x ≡ finite x
-unfolding lt
-below_top nan t = refl
-below_top (inf true) t = refl
-below_top (inf false) t = sym t
-below_top (fin s m e) t = refl
-
-pub not_below_top : (x : Float) → lt x (inf false) ≡ false → false ≡ finite x
-unfolding lt
-not_below_top nan t = refl
-not_below_top (inf true) t = refl
-not_below_top (inf false) t = refl
-not_below_top (fin s m e) t = sym t
+pub finite_is : (x : Float) → float_is_finite x ≡ finite x
+unfolding float_is_finite
+finite_is nan = refl
+finite_is (inf s) = refl
+finite_is (fin s m e) = refl

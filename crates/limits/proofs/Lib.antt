@@ -1,3 +1,4 @@
 pub mod Finite
 pub mod Outside
 pub mod None
+pub mod Within

@@ -1,3 +1,4 @@
+#![tactic(auto)]
 // What is refused: the limits of document 01 that a gain call, a lookup and a card have in common.
 mod numbers;
 mod refusal;

@@ -8,8 +8,7 @@ pub const MOST: f32 = 1000.0;
 pub fn is_finite(x: f32) -> bool
     ensures { result ≡ finite x }
 {
-    let top = 1.0 / 0.0;
-    if x < top { -top < x } else { false }
+    x.is_finite()
 }
 
 // NaN is not within.
@@ -22,12 +21,10 @@ fn is_outside(x: f32) -> bool
 pub fn any_outside(numbers: &[f32]) -> bool
     ensures { result ≡ any_outside numbers.now }
 {
-    let mut i: usize = 0;
-    while i < numbers.len() {
-        if is_outside(numbers[i]) {
+    for x in numbers {
+        if is_outside(*x) {
             return true;
         }
-        i += 1;
     }
     false
 }
