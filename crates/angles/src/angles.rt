@@ -32,6 +32,7 @@ pub fn radians_of(degrees: f32) -> f32
     degrees * 0.017453293
 }
 
+#[tactic(auto, unfolding(crate::specs::Angles::azimuth_of))]
 pub fn azimuth_of(toaz: f32) -> Azimuth
     ensures { result ≡ azimuth_of toaz }
 {
@@ -45,6 +46,7 @@ pub fn azimuth_of(toaz: f32) -> Azimuth
 }
 
 // From the cosine and the sine, which a filling may take from elsewhere than the elevation.
+#[tactic(auto, unfolding(crate::specs::Angles::elevation_of))]
 pub fn elevation_of(t: f32, q: f32) -> Elevation
     ensures { result ≡ elevation_of t q }
 {

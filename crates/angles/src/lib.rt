@@ -1,3 +1,4 @@
+#![tactic(auto)]
 // What the reflection and the patterns take of a card, a row and a column: off-azimuth, wavelength,
 // elevation.
 mod angles;

@@ -1,3 +1,4 @@
+#![tactic(auto)]
 // An antenna as a card or a gain call gives it.
 mod antenna;
 

@@ -1,3 +1,4 @@
+#![tactic(auto)]
 // The curtain pattern, type 6.
 mod bays;
 mod card;

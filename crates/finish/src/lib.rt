@@ -1,3 +1,4 @@
+#![tactic(auto)]
 // Document 01 section 5: `finish`.
 ghost use Rattle.std.specs.Prelude.{◌≡◌};
 ghost use Rattle.finish.specs.Finish.{

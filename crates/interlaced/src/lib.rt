@@ -1,3 +1,4 @@
+#![tactic(auto)]
 // `iongain2`'s terminated interlaced rhombic (type 10).
 mod interlaced;
 

@@ -17,6 +17,7 @@ pub struct Legs {
     pub hwave: f32,
 }
 
+#[tactic(auto, unfolding(crate::specs::Legs::legs_of))]
 pub fn legs_of(phi: f32, azimuth: Azimuth, fac: f32, hwave: f32) -> Legs
     ensures { result ≡ legs_of phi azimuth fac hwave }
 {
@@ -47,8 +48,7 @@ pub fn elfac(legs: Legs, e: Elevation) -> f32
         fac,
         ..
     } = legs;
-    let t = e.t;
-    let u1 = 1.0 - t * sisum;
-    let u2 = 1.0 - t * sidif;
+    let u1 = 1.0 - e.t * sisum;
+    let u2 = 1.0 - e.t * sidif;
     crhi * elementary::sin(fac * u1) * elementary::sin(fac * u2) / (u1 * u2)
 }

@@ -1,3 +1,4 @@
+#![tactic(auto)]
 // `iongain2`'s terminated rhombic (type 1), and the legs that it shares with type 10.
 mod legs;
 mod rhombic;
