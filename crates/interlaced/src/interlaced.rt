@@ -33,6 +33,7 @@ pub fn offset_of(ht: f32, ss: f32, wave: f32) -> Offset
 }
 
 // The second rhombic's phase.
+#[tactic(auto, unfolding(crate::specs::Interlaced::y_of))]
 fn y_of(offset: Offset, e: Elevation, cb: f32) -> f32
     ensures { result ≡ y_of offset e cb }
 {
@@ -82,11 +83,10 @@ pub fn interlaced_rain(legs: Legs, offset: Offset, e: Elevation, earth: Ground) 
     } = legs;
     let Elevation { t, q, r, .. } = e;
     let Ground { ch, cv, psih, psiv } = earth;
-    let htwave = offset.htwave;
     let factor = elfac(legs, e);
     let elfac2 = factor * factor;
     let y = y_of(offset, e, cb);
-    let z = y - 2.0 * htwave * q;
+    let z = y - 2.0 * offset.htwave * q;
     let of_y = elementary::sin_cos(y);
     let of_z = elementary::sin_cos(z);
     let of_yh = elementary::sin_cos(psih - 2.0 * hwave * q);

@@ -3,6 +3,7 @@ use Rattle.std.specs.Prelude.{Float}
 use Rattle.std.specs.Float.Ieee.{neg}
 use Rattle.single.specs.Single.{◌⊞◌, ◌⊟◌, ◌⊠◌, ◌⊘◌, num}
 use Rattle.elementary.specs.Trigonometric.{sine, cosine}
+use Rattle.trigonometric.specs.declared.trigonometric.SineCosine.{SineCosine}
 use Rattle.angles.specs.Angles.{pi}
 use Rattle.angles.specs.declared.angles.Elevation.{Elevation}
 use Rattle.reflection.specs.declared.ground.Ground.{Ground}
@@ -20,8 +21,10 @@ leg_pair_of fac2 u v =
     }
 
 -- f7 and g7 with cv, w3 and w4; f8 and g8 with ch, w1 and w2
-unfoldable pub field_of : Float → Float → Float → Float → Float → LegPair → LegPair → Field
-field_of x y c cosw sinw legs images =
+unfoldable pub field_of : Float → Float → Float → SineCosine → LegPair → LegPair → Field
+field_of x y c w legs images =
+    let cosw = w.cosine in
+    let sinw = w.sine in
     let a7 = images.a in
     let b7 = images.b in
     record {
@@ -40,7 +43,7 @@ sloping_rhombic_rain slope elevation earth =
     let x8 = slope.sidif ⊘ d.u1 ⊟ slope.sisum ⊘ d.u2 in
     let y8 = slope.sidif ⊘ d.u3 ⊟ slope.sisum ⊘ d.u4 in
     let w = reflected_of (earth.psih ⊞ pi) (earth.psiv ⊟ pi) slope.hwave2 elevation.q in
-    let v = field_of x7 y7 earth.cv w.w3 w.w4 legs images in
-    let h = field_of x8 y8 earth.ch w.w1 w.w2 legs images in
+    let v = field_of x7 y7 earth.cv w.vertical legs images in
+    let h = field_of x8 y8 earth.ch w.horizontal legs images in
     let pp = slope.pp in
     num 5 100 ⊠ (v.re ⊠ v.re ⊞ v.im ⊠ v.im ⊞ pp ⊠ pp ⊠ (h.re ⊠ h.re ⊞ h.im ⊠ h.im))

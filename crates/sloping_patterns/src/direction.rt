@@ -3,10 +3,11 @@ ghost use Rattle.std.specs.Prelude.{◌≡◌};
 ghost use Rattle.sloping_patterns.specs.Direction.{direction_of, reflected_of};
 
 use angles::Elevation;
+use elementary::SineCosine;
 use slopes::Slope;
 
 // 1 and 2 are the legs, 3 and 4 their images: `u` is 1 minus the cosine of the angle to the
-// direction.
+// direction. Numbered as document 01 numbers them: legs in structs of their own read no plainer.
 #[derive(Clone, Copy)]
 pub struct Direction {
     pub copsi5: f32,
@@ -19,13 +20,11 @@ pub struct Direction {
     pub u4: f32,
 }
 
-// Cosine and sine of the reflected phase, horizontal (`w1`, `w2`) and vertical (`w3`, `w4`).
+// Sine and cosine of the reflected phase, horizontal (`w2` and `w1`) and vertical (`w4` and `w3`).
 #[derive(Clone, Copy)]
 pub struct ReflectedPhase {
-    pub w1: f32,
-    pub w2: f32,
-    pub w3: f32,
-    pub w4: f32,
+    pub horizontal: SineCosine,
+    pub vertical: SineCosine,
 }
 
 // A field strength as a complex number.
@@ -62,15 +61,12 @@ pub(crate) fn direction_of(slope: Slope, elevation: Elevation) -> Direction
     }
 }
 
+#[tactic(auto, unfolding(crate::specs::Direction::reflected_of))]
 pub(crate) fn reflected_of(psih: f32, psiv: f32, hwave2: f32, q: f32) -> ReflectedPhase
     ensures { result ≡ reflected_of psih psiv hwave2 q }
 {
-    let horizontal = elementary::sin_cos(psih - hwave2 * q);
-    let vertical = elementary::sin_cos(psiv - hwave2 * q);
     ReflectedPhase {
-        w1: horizontal.cosine,
-        w2: horizontal.sine,
-        w3: vertical.cosine,
-        w4: vertical.sine,
+        horizontal: elementary::sin_cos(psih - hwave2 * q),
+        vertical: elementary::sin_cos(psiv - hwave2 * q),
     }
 }

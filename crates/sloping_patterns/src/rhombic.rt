@@ -4,6 +4,7 @@ ghost use Rattle.sloping_patterns.specs.Rhombic.{leg_pair_of, field_of, sloping_
 
 use crate::direction::{Direction, Field, direction_of, reflected_of};
 use angles::{Elevation, PI};
+use elementary::SineCosine;
 use reflection::Ground;
 use slopes::Slope;
 
@@ -27,12 +28,16 @@ fn leg_pair_of(fac2: f32, first: f32, second: f32) -> LegPair
 }
 
 // `f7` and `g7`, or `f8` and `g8`: the legs', and the images' by the reflection's magnitude `c`
-// and the cosine and sine of its phase.
-fn field_of(x: f32, y: f32, c: f32, cosw: f32, sinw: f32, legs: LegPair, images: LegPair) -> Field
-    ensures { result ≡ field_of x y c cosw sinw legs images }
+// and the sine and cosine of its phase.
+#[tactic(auto, unfolding(crate::specs::Rhombic::field_of))]
+fn field_of(x: f32, y: f32, c: f32, w: SineCosine, legs: LegPair, images: LegPair) -> Field
+    ensures { result ≡ field_of x y c w legs images }
 {
-    let a7 = images.a;
-    let b7 = images.b;
+    let LegPair { a: a7, b: b7 } = images;
+    let SineCosine {
+        sine: sinw,
+        cosine: cosw,
+    } = w;
     Field {
         re: x * legs.a + y * c * (a7 * cosw - b7 * sinw),
         im: x * legs.b + y * c * (a7 * sinw + b7 * cosw),
@@ -51,8 +56,8 @@ pub fn sloping_rhombic_rain(slope: Slope, elevation: Elevation, earth: Ground) -
     let x8 = slope.sidif / u1 - slope.sisum / u2;
     let y8 = slope.sidif / u3 - slope.sisum / u4;
     let w = reflected_of(earth.psih + PI, earth.psiv - PI, slope.hwave2, elevation.q);
-    let v = field_of(x7, y7, earth.cv, w.w3, w.w4, legs, images);
-    let h = field_of(x8, y8, earth.ch, w.w1, w.w2, legs, images);
+    let v = field_of(x7, y7, earth.cv, w.vertical, legs, images);
+    let h = field_of(x8, y8, earth.ch, w.horizontal, legs, images);
     let pp = slope.pp;
     0.05 * (v.re * v.re + v.im * v.im + pp * pp * (h.re * h.re + h.im * h.im))
 }
