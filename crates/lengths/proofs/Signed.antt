@@ -10,11 +10,9 @@ use lib.Ieee.{Float, nan, inf, fin, binary32, lt, neg, round, mul, unlike, up, d
 use Rattle.single.proofs.Booleans.{holds}
 use Rattle.single.specs.Single.{◌⊠◌, ◌⊘◌, num}
 use Rattle.elementary.specs.Basic.{absolute}
-use Rattle.lengths.specs.Length.{length_of, leg_of, in_waves, phase_of, height_of, monopole_of}
+use Rattle.lengths.specs.Length.{length_of, leg_of, phase_of, height_turn, monopole_turn}
 use Rattle.lengths.specs.declared.length.Length.TheVariants.{Metres}
 use Rattle.lengths.specs.declared.length.PhaseInWaves.{PhaseInWaves}
-use Rattle.lengths.specs.declared.length.HeightInWaves.{HeightInWaves}
-use Rattle.lengths.specs.declared.length.MonopoleInWaves.{MonopoleInWaves}
 use Rattle.lengths.specs.Signed.{signed_leg, signed_height, signed_monopole}
 
 none_below : (m : ℕ) (e : ℤ) → T (lt (fin false m e) (num 0 1)) → ⊥
@@ -57,12 +55,6 @@ leg_signed v wave = go (lt v (num 0 1)) refl
 abbrev metres : Float → Float → Float → PhaseInWaves
 metres turn h wave = record { phase = turn ⊠ h ⊘ wave; waves = h ⊘ wave }
 
-abbrev height_at : PhaseInWaves → HeightInWaves
-height_at p = record { hwave = p.phase; h1 = p.waves }
-
-abbrev monopole_at : PhaseInWaves → MonopoleInWaves
-monopole_at p = record { a = p.phase; x = p.waves }
-
 -- a height's kind is told by its sign alone
 by_sign : (turn v wave : Float) → phase_of turn (length_of v) wave ≡ phase_of turn (Metres v) wave
 unfolding length_of phase_of
@@ -72,13 +64,9 @@ by_sign turn v wave = go (lt v (num 0 1)) refl
     go true h = rw (h, not_above v (holds h), neg_absolute v (holds h))
     go false h = rw h
 
-pub height_signed : (v wave : Float) → height_of (length_of v) wave ≡ signed_height v wave
-unfolding height_of phase_of signed_height
-height_signed v wave = ap height_at (by_sign (num 62832 10000) v wave) ∙ go (lt (num 0 1) v)
-  where
-    go : (b : Bool) → height_at (cond b (metres (num 62832 10000) v wave) (in_waves (num 62832 10000) (absolute v))) ≡ cond b (height_at (metres (num 62832 10000) v wave)) (height_at (in_waves (num 62832 10000) (absolute v)))
-    go true = refl
-    go false = refl
+pub height_signed : (v wave : Float) → phase_of height_turn (length_of v) wave ≡ signed_height v wave
+unfolding phase_of signed_height
+height_signed v wave = by_sign height_turn v wave
 
 ⊠_comm : (x y : Float) → x ⊠ y ≡ y ⊠ x
 unfolding mul
@@ -92,10 +80,8 @@ unfolding mul
 ⊠_comm (fin s m e) (inf t) = ap (λ (b : Bool). cond (eqb m 0) nan (inf b)) (unlike_comm s t)
 ⊠_comm (fin s m e) (fin t n d) = λ i. round binary32 (unlike_comm s t i) (mul_comm (m * up e) (n * up d) i) (mul_comm (down e) (down d) i)
 
-pub monopole_signed : (v wave : Float) → monopole_of (length_of v) wave ≡ signed_monopole v wave
-unfolding monopole_of phase_of signed_monopole
-monopole_signed v wave = ap monopole_at (by_sign (num 6283185 1000000) v wave) ∙ go (lt (num 0 1) v)
-  where
-    go : (b : Bool) → monopole_at (cond b (metres (num 6283185 1000000) v wave) (in_waves (num 6283185 1000000) (absolute v))) ≡ cond b (monopole_at (metres (num 6283185 1000000) v wave)) (record { a = absolute v ⊠ num 6283185 1000000; x = absolute v })
-    go true = refl
-    go false = ap (λ (y : Float). record { a = y; x = absolute v }) (⊠_comm (num 6283185 1000000) (absolute v))
+pub monopole_signed : (v wave : Float) → phase_of monopole_turn (length_of v) wave ≡ signed_monopole v wave
+unfolding phase_of signed_monopole
+monopole_signed v wave =
+    by_sign monopole_turn v wave
+    ∙ ap (λ (y : Float). cond (lt (num 0 1) v) (metres monopole_turn v wave) (record { phase = y; waves = absolute v })) (⊠_comm monopole_turn (absolute v))

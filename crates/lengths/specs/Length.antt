@@ -8,8 +8,6 @@ use Rattle.lengths.specs.declared.length.Length.{Length}
 use Rattle.lengths.specs.declared.length.Length.TheVariants.{Metres, Wavelengths}
 use Rattle.lengths.specs.declared.length.LegInWaves.{LegInWaves}
 use Rattle.lengths.specs.declared.length.PhaseInWaves.{PhaseInWaves}
-use Rattle.lengths.specs.declared.length.HeightInWaves.{HeightInWaves}
-use Rattle.lengths.specs.declared.length.MonopoleInWaves.{MonopoleInWaves}
 
 -- a negative number gives wavelengths of the opposite sign, any other gives metres
 unfoldable pub length_of : Float → Length
@@ -33,10 +31,10 @@ phase_of turn (Metres h) wave =
     cond (lt (num 0 1) h) (record { phase = turn ⊠ h ⊘ wave; waves = h ⊘ wave }) (in_waves turn (absolute h))
 phase_of turn (Wavelengths x) wave = in_waves turn x
 
--- the height: hwave and h1
-unfoldable pub height_of : Length → Float → HeightInWaves
-height_of length wave = let p = phase_of (num 62832 10000) length wave in record { hwave = p.phase; h1 = p.waves }
+-- the turn of the height, whose phase is hwave and whose wavelengths are h1
+abbrev pub height_turn : Float
+height_turn = num 62832 10000
 
--- the height of types 2 and 5, which is their leg: a and x. The Rust multiplies wavelengths the other way round, which is the same product: proofs/Signed.antt
-unfoldable pub monopole_of : Length → Float → MonopoleInWaves
-monopole_of length wave = let p = phase_of (num 6283185 1000000) length wave in record { a = p.phase; x = p.waves }
+-- the turn of types 2 and 5, of their height, which is their leg: a and x. The Rust multiplies wavelengths the other way round, which is the same product: proofs/Signed.antt
+abbrev pub monopole_turn : Float
+monopole_turn = num 6283185 1000000

@@ -4,8 +4,7 @@ use Rattle.std.specs.Float.Ieee.{lt}
 use Rattle.single.specs.Single.{◌⊠◌, ◌⊘◌, num}
 use Rattle.elementary.specs.Basic.{absolute}
 use Rattle.lengths.specs.declared.length.LegInWaves.{LegInWaves}
-use Rattle.lengths.specs.declared.length.HeightInWaves.{HeightInWaves}
-use Rattle.lengths.specs.declared.length.MonopoleInWaves.{MonopoleInWaves}
+use Rattle.lengths.specs.declared.length.PhaseInWaves.{PhaseInWaves}
 
 -- if el < 0.0
 unfoldable pub signed_leg : Float → Float → LegInWaves
@@ -14,16 +13,16 @@ signed_leg el wave =
     cond (lt el (num 0 1)) (record { fac = num 31416 10000 ⊠ el1; el1 = el1 })
     (record { fac = num 31416 10000 ⊠ el ⊘ wave; el1 = el ⊘ wave })
 
--- if h > 0.0
-unfoldable pub signed_height : Float → Float → HeightInWaves
+-- if h > 0.0: hwave and h1
+unfoldable pub signed_height : Float → Float → PhaseInWaves
 signed_height h wave =
     let h1 = absolute h in
-    cond (lt (num 0 1) h) (record { hwave = num 62832 10000 ⊠ h ⊘ wave; h1 = h ⊘ wave })
-    (record { hwave = num 62832 10000 ⊠ h1; h1 = h1 })
+    cond (lt (num 0 1) h) (record { phase = num 62832 10000 ⊠ h ⊘ wave; waves = h ⊘ wave })
+    (record { phase = num 62832 10000 ⊠ h1; waves = h1 })
 
--- if h > 0.0, in types 2 and 5
-unfoldable pub signed_monopole : Float → Float → MonopoleInWaves
+-- if h > 0.0, in types 2 and 5: a and x
+unfoldable pub signed_monopole : Float → Float → PhaseInWaves
 signed_monopole h wave =
     let h1 = absolute h in
-    cond (lt (num 0 1) h) (record { a = num 6283185 1000000 ⊠ h ⊘ wave; x = h ⊘ wave })
-    (record { a = h1 ⊠ num 6283185 1000000; x = h1 })
+    cond (lt (num 0 1) h) (record { phase = num 6283185 1000000 ⊠ h ⊘ wave; waves = h ⊘ wave })
+    (record { phase = h1 ⊠ num 6283185 1000000; waves = h1 })

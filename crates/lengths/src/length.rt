@@ -1,6 +1,6 @@
 // Document 01 section 8: a length is in metres or in wavelengths, said by its kind.
 ghost use Rattle.std.specs.Prelude.{◌≡◌};
-ghost use Rattle.lengths.specs.Length.{height_slot_of, length_of, leg_of, phase_of, height_of, monopole_of};
+ghost use Rattle.lengths.specs.Length.{height_slot_of, length_of, leg_of, phase_of};
 
 #[derive(Clone, Copy)]
 pub enum Length {
@@ -15,26 +15,18 @@ pub struct LegInWaves {
     pub el1: f32,
 }
 
-// A height's phase and its wavelengths.
+// A height's phase, by the turn to the wavelength, and its wavelengths.
 #[derive(Clone, Copy)]
 pub struct PhaseInWaves {
     pub phase: f32,
     pub waves: f32,
 }
 
-// A height's phase `hwave`, 6.2832 to the wavelength, and its wavelengths `h1`.
-#[derive(Clone, Copy)]
-pub struct HeightInWaves {
-    pub hwave: f32,
-    pub h1: f32,
-}
+// The turn of the height's phase `hwave`.
+pub const HEIGHT_TURN: f32 = 6.2832;
 
-// The height of types 2 and 5: the phase `a`, 6.283185 to the wavelength, and the wavelengths `x`.
-#[derive(Clone, Copy)]
-pub struct MonopoleInWaves {
-    pub a: f32,
-    pub x: f32,
-}
+// The turn of types 2 and 5, of their height's phase `a`.
+pub const MONOPOLE_TURN: f32 = 6.283185;
 
 // A negative number is in wavelengths, of the opposite sign; any other is in metres.
 pub fn read_length(v: f32) -> Length
@@ -72,7 +64,7 @@ pub fn leg_in_waves(length: Length, wave: f32) -> LegInWaves
 }
 
 // Metres not above 0 count as wavelengths, without their sign.
-fn phase_in_waves(turn: f32, length: Length, wave: f32) -> PhaseInWaves
+pub fn phase_in_waves(turn: f32, length: Length, wave: f32) -> PhaseInWaves
     ensures { result ≡ phase_of turn length wave }
 {
     match length {
@@ -93,25 +85,5 @@ fn phase_in_waves(turn: f32, length: Length, wave: f32) -> PhaseInWaves
             phase: turn * waves,
             waves,
         },
-    }
-}
-
-pub fn height_in_waves(length: Length, wave: f32) -> HeightInWaves
-    ensures { result ≡ height_of length wave }
-{
-    let p = phase_in_waves(6.2832, length, wave);
-    HeightInWaves {
-        hwave: p.phase,
-        h1: p.waves,
-    }
-}
-
-pub fn monopole_in_waves(length: Length, wave: f32) -> MonopoleInWaves
-    ensures { result ≡ monopole_of length wave }
-{
-    let p = phase_in_waves(6.283185, length, wave);
-    MonopoleInWaves {
-        a: p.phase,
-        x: p.waves,
     }
 }
