@@ -2,16 +2,12 @@
 use Rattle.std.specs.Prelude.{Float}
 use Rattle.single.specs.Single.{◌⊞◌, ◌⊟◌, ◌⊠◌, ◌⊘◌, num}
 use Rattle.elementary.specs.Trigonometric.{cosine}
-use Rattle.reflection.specs.Ground.{image_power}
+use Rattle.reflection.specs.Ground.{with_image}
 use Rattle.angles.specs.declared.angles.Azimuth.{Azimuth}
 use Rattle.angles.specs.declared.angles.Elevation.{Elevation}
 use Rattle.reflection.specs.declared.ground.Ground.{Ground}
 use Rattle.dipoles.specs.declared.row.Dipole.{Dipole}
 use Rattle.dipoles.specs.Row.{sin2kl}
-
--- xkv of cv and psiv, xkh of ch and psih; hwave2 is twice hwave
-unfoldable pub interference : Float → Float → Float → Float → Float
-interference c psi hwave2 q = image_power c (psi ⊟ hwave2 ⊠ q)
 
 -- `rain`
 unfoldable pub dipole_rain : Dipole → Azimuth → Elevation → Ground → Float
@@ -22,8 +18,8 @@ dipole_rain dipole azimuth elevation earth =
     let q = elevation.q in
     let ss = sb ⊠ sb in
     let c = t ⊠ t in
-    let xkv = interference earth.cv earth.psiv dipole.hwave2 q in
-    let xkh = interference earth.ch earth.psih dipole.hwave2 q in
+    let xkv = with_image earth.cv earth.psiv dipole.hwave2 q in
+    let xkh = with_image earth.ch earth.psih dipole.hwave2 q in
     let xt1 = cosine (dipole.fac ⊠ sb ⊠ t) ⊟ dipole.cfac in
     let xb1 = num 1 1 ⊟ ss ⊠ c in
     let xt2 = (xkv ⊠ ss ⊠ elevation.r ⊞ xkh ⊠ cb ⊠ cb) ⊘ sin2kl in

@@ -2,9 +2,10 @@
 ghost use Rattle.std.specs.Prelude.{◌≡◌};
 ghost use Rattle.single.specs.Answer.{IsAnswer};
 ghost use Rattle.dipoles.specs.Row.{cotangent, xr_of, dipole_row};
-ghost use Rattle.dipoles.specs.Row.{dipole_settles, dipole_number, dipole_values, zero_dipole};
+ghost use Rattle.dipoles.specs.Row.{dipole_settles, zero_dipole};
+ghost use Rattle.integrals.specs.Settled.{unsettled_number, settled_value};
 
-use integrals::{IntegralPair, Integrals, Turns, integral_pair};
+use integrals::{Integrals, Settled, integral_pair};
 
 // `cfac` is the cosine of the leg's phase `fac`, `scale` is 120 over the resistance `xr`, and
 // `hwave2` twice the height's phase.
@@ -14,12 +15,6 @@ pub struct Dipole {
     pub cfac: f32,
     pub scale: f32,
     pub hwave2: f32,
-}
-
-#[derive(Clone, Copy)]
-pub enum DipoleRow {
-    Settled(Dipole, Turns),
-    Unsettled,
 }
 
 fn cot(x: f32) -> f32
@@ -40,21 +35,15 @@ fn xr_of(fac: f32, at2kl: Integrals, atkl: Integrals) -> f32
         / sin2kl
 }
 
-pub fn dipole_row(fac: f32, hwave: f32) -> DipoleRow
-    ensures { IsAnswer dipole_number dipole_values zero_dipole 11 (dipole_row fac hwave) (dipole_settles fac) result }
+pub fn dipole_row(fac: f32, hwave: f32) -> Option<Settled<Dipole>>
+    ensures { IsAnswer unsettled_number (settled_value zero_dipole) zero_dipole 11 (dipole_row fac hwave) (dipole_settles fac) result }
 {
-    let IntegralPair::Settled(at2kl, atkl, turns) = integral_pair(fac * 4.0, fac * 2.0) else {
-        return DipoleRow::Unsettled;
-    };
-    let xr = xr_of(fac, at2kl, atkl);
-    let cfac = elementary::cos(fac);
-    DipoleRow::Settled(
-        Dipole {
-            fac,
-            cfac,
-            scale: 120.0 / xr,
-            hwave2: 2.0 * hwave,
-        },
-        turns,
-    )
+    let pair = integral_pair(fac * 4.0, fac * 2.0)?;
+    let (at2kl, atkl) = pair.value;
+    Some(pair.with(Dipole {
+        fac,
+        cfac: elementary::cos(fac),
+        scale: 120.0 / xr_of(fac, at2kl, atkl),
+        hwave2: 2.0 * hwave,
+    }))
 }

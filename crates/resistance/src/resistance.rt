@@ -3,15 +3,10 @@ ghost use Rattle.std.specs.Prelude.{◌≡◌};
 ghost use Rattle.single.specs.Single.{num};
 ghost use Rattle.single.specs.Answer.{IsAnswer};
 ghost use Rattle.integrals.specs.Pair.{pair_settles};
-ghost use Rattle.resistance.specs.Resistance.{cin_of, resistance_from, resistance_of, resistance_number, resistance_value};
+ghost use Rattle.integrals.specs.Settled.{unsettled_number, settled_value};
+ghost use Rattle.resistance.specs.Resistance.{cin_of, resistance_from, resistance_of};
 
-use integrals::{IntegralPair, Integrals, Turns};
-
-#[derive(Clone, Copy)]
-pub enum Resistance {
-    Settled(f32, Turns),
-    Unsettled,
-}
+use integrals::{Integrals, Settled};
 
 fn cin_of(v: f32, ci: f32) -> f32
     ensures { result ≡ cin_of v ci }
@@ -31,11 +26,10 @@ fn resistance_from(d: f32, z: f32, dw: Integrals, zw: Integrals) -> f32
 }
 
 // By the phases d and z, twice and four times the height's.
-pub fn resistance_of(d: f32, z: f32) -> Resistance
-    ensures { IsAnswer resistance_number resistance_value (num 0 1) 11 (resistance_of d z) (pair_settles d z) result }
+pub fn resistance_of(d: f32, z: f32) -> Option<Settled<f32>>
+    ensures { IsAnswer unsettled_number (settled_value (num 0 1)) (num 0 1) 11 (resistance_of d z) (pair_settles d z) result }
 {
-    let IntegralPair::Settled(dw, zw, turns) = integrals::integral_pair(d, z) else {
-        return Resistance::Unsettled;
-    };
-    Resistance::Settled(resistance_from(d, z, dw, zw), turns)
+    let pair = integrals::integral_pair(d, z)?;
+    let (dw, zw) = pair.value;
+    Some(pair.with(resistance_from(d, z, dw, zw)))
 }

@@ -5,7 +5,7 @@ use Rattle.dipoles.proofs.pattern.dipole_rain.Goals as goal
 pub returns : goal.returns
 unfolding dipole_rain round of_bits
 returns c = rw (
-  ← c.interference_of-xkv.ensures,
-  ← c.interference_of-xkh.ensures,
+  ← c.with_image-xkv.ensures,
+  ← c.with_image-xkh.ensures,
   ← c.cos.ensures,
 )
