@@ -40,13 +40,10 @@ pub fn efficiency(kop: i32, x: f32, eff8: f32) -> f32
     ensures { result ≡ efficiency_of kop x eff8 }
 {
     match kop {
-        1 => -1.7,
-        2 => monopole_efficiency(x),
-        5 => monopole_efficiency(x),
-        7 => -1.7,
+        1 | 10 => -1.7,
+        2 | 5 => monopole_efficiency(x),
+        7 | 9 => -1.7,
         8 => eff8,
-        9 => -1.7,
-        10 => -1.7,
         _ => 0.0,
     }
 }
