@@ -6,25 +6,24 @@ use Rattle.root.specs.Root.{root}
 use Rattle.elementary.specs.Basic.{absolute}
 use Rattle.elementary.specs.Trigonometric.{sine, cosine}
 use Rattle.elementary.specs.Arctangent.{arcsine}
-use Rattle.lengths.specs.declared.length.LegInWaves.{LegInWaves}
-use Rattle.lengths.specs.declared.length.HeightInWaves.{HeightInWaves}
 use Rattle.angles.specs.Angles.{radians_of}
-use Rattle.angles.specs.declared.angles.Azimuth.{Azimuth}
 use Rattle.slopes.specs.declared.slope.Slope.{Slope}
+use Rattle.slopes.specs.declared.slope.SlopingLegs.{SlopingLegs}
 
 -- ht: the other end's height in wavelengths. The first extra is in wavelengths where negative, else in metres
 unfoldable pub ht_of : Float → Float → Float
 ht_of aex1 wave = cond (lt aex1 (num 0 1)) (absolute aex1) (aex1 ⊘ wave)
 
 -- what the other end rises above the feed, over a leg
-unfoldable pub rise_of : Float → Float → Float → Float → Float
-rise_of aex1 wave h1 el1 = (ht_of aex1 wave ⊟ h1) ⊘ el1
+unfoldable pub rise_of : SlopingLegs → Float
+rise_of legs = (ht_of legs.aex1 legs.wave ⊟ legs.height.waves) ⊘ legs.leg.el1
 
 -- from the slope's sine g on. The Rust's rhi is the angle phi in radians, and then this arcsine
-unfoldable pub slope_of : Float → Float → Float → Float → Float → Slope
-slope_of g fac hwave phi reta =
+unfoldable pub slope_of : SlopingLegs → Float → Slope
+slope_of legs g =
+    let reta = legs.azimuth.reta in
     let pp = root (num 1 1 ⊟ g ⊠ g) in
-    let e = sine (radians_of phi) in
+    let e = sine (radians_of legs.phi) in
     let rhi = arcsine (e ⊘ pp) in
     record {
       g = g;
@@ -33,15 +32,13 @@ slope_of g fac hwave phi reta =
       sidif = sine (reta ⊟ rhi);
       cosum = cosine (rhi ⊞ reta);
       codif = cosine (rhi ⊟ reta);
-      fac2 = fac ⊠ num 2 1;
-      hwave2 = num 2 1 ⊠ hwave;
+      fac2 = legs.leg.fac ⊠ num 2 1;
+      hwave2 = num 2 1 ⊠ legs.height.phase;
     }
 
-unfoldable pub vee_slope : Float → Float → LegInWaves → HeightInWaves → Float → Azimuth → Slope
-vee_slope aex1 wave leg height phi azimuth =
-    slope_of (rise_of aex1 wave height.h1 leg.el1) leg.fac height.hwave phi azimuth.reta
+unfoldable pub vee_slope : SlopingLegs → Slope
+vee_slope legs = slope_of legs (rise_of legs)
 
 -- from end to end lie two legs
-unfoldable pub rhombic_slope : Float → Float → LegInWaves → HeightInWaves → Float → Azimuth → Slope
-rhombic_slope aex1 wave leg height phi azimuth =
-    slope_of (rise_of aex1 wave height.h1 leg.el1 ⊠ num 5 10) leg.fac height.hwave phi azimuth.reta
+unfoldable pub rhombic_slope : SlopingLegs → Slope
+rhombic_slope legs = slope_of legs (rise_of legs ⊠ num 5 10)

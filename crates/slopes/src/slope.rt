@@ -4,7 +4,7 @@ ghost use Rattle.slopes.specs.Slope.{ht_of, rise_of, slope_of, vee_slope, rhombi
 
 use angles::Azimuth;
 use elementary::SineCosine;
-use lengths::{HeightInWaves, LegInWaves};
+use lengths::{LegInWaves, PhaseInWaves};
 
 // `g` and `pp` are the slope's sine and cosine, `fac2` and `hwave2` twice the phases of the leg
 // and of the height.
@@ -20,6 +20,18 @@ pub struct Slope {
     pub hwave2: f32,
 }
 
+// What the legs are at a wavelength. The first extra `aex1` is the other end's height, `height` the
+// feed's, and `phi` the card's angle.
+#[derive(Clone, Copy)]
+pub struct SlopingLegs {
+    pub aex1: f32,
+    pub wave: f32,
+    pub leg: LegInWaves,
+    pub height: PhaseInWaves,
+    pub phi: f32,
+    pub azimuth: Azimuth,
+}
+
 // The other end's height in wavelengths, from the first extra: negative in wavelengths, any other
 // in metres.
 fn ht_of(aex1: f32, wave: f32) -> f32
@@ -31,60 +43,49 @@ fn ht_of(aex1: f32, wave: f32) -> f32
     aex1 / wave
 }
 
-// How far the other end stands above the feed, in legs.
-fn rise_of(aex1: f32, wave: f32, h1: f32, el1: f32) -> f32
-    ensures { result ≡ rise_of aex1 wave h1 el1 }
-{
-    (ht_of(aex1, wave) - h1) / el1
-}
-
-// The legs' angle in their own sloping plane is the Rust's second `rhi`.
-fn slope_of(g: f32, fac: f32, hwave: f32, phi: f32, reta: f32) -> Slope
-    ensures { result ≡ slope_of g fac hwave phi reta }
-{
-    let pp = root::sqrt(1.0 - g * g);
-    let e = elementary::sin(angles::radians_of(phi));
-    let rhi = elementary::asin(e / pp);
-    let SineCosine { sine, cosine } = elementary::sin_cos(rhi + reta);
-    let sidif = elementary::sin(reta - rhi);
-    let codif = elementary::cos(rhi - reta);
-    Slope {
-        g,
-        pp,
-        sisum: sine,
-        sidif,
-        cosum: cosine,
-        codif,
-        fac2: fac * 2.0,
-        hwave2: 2.0 * hwave,
+impl SlopingLegs {
+    // How far the other end stands above the feed, in legs.
+    #[tactic(auto, unfolding(crate::specs::Slope::rise_of))]
+    fn rise(self) -> f32
+        ensures { result ≡ rise_of self }
+    {
+        (ht_of(self.aex1, self.wave) - self.height.waves) / self.leg.el1
     }
-}
 
-pub fn vee_slope(
-    aex1: f32,
-    wave: f32,
-    leg: LegInWaves,
-    height: HeightInWaves,
-    phi: f32,
-    azimuth: Azimuth,
-) -> Slope
-    ensures { result ≡ vee_slope aex1 wave leg height phi azimuth }
-{
-    let g = rise_of(aex1, wave, height.h1, leg.el1);
-    slope_of(g, leg.fac, height.hwave, phi, azimuth.reta)
-}
+    // By the slope's sine. The legs' angle in their own sloping plane is the Rust's second `rhi`.
+    fn slope_of(self, g: f32) -> Slope
+        ensures { result ≡ slope_of self g }
+    {
+        let reta = self.azimuth.reta;
+        let pp = root::sqrt(1.0 - g * g);
+        let e = elementary::sin(angles::radians_of(self.phi));
+        let rhi = elementary::asin(e / pp);
+        let SineCosine { sine, cosine } = elementary::sin_cos(rhi + reta);
+        let sidif = elementary::sin(reta - rhi);
+        let codif = elementary::cos(rhi - reta);
+        Slope {
+            g,
+            pp,
+            sisum: sine,
+            sidif,
+            cosum: cosine,
+            codif,
+            fac2: self.leg.fac * 2.0,
+            hwave2: 2.0 * self.height.phase,
+        }
+    }
 
-// From end to end lie two legs.
-pub fn rhombic_slope(
-    aex1: f32,
-    wave: f32,
-    leg: LegInWaves,
-    height: HeightInWaves,
-    phi: f32,
-    azimuth: Azimuth,
-) -> Slope
-    ensures { result ≡ rhombic_slope aex1 wave leg height phi azimuth }
-{
-    let g = rise_of(aex1, wave, height.h1, leg.el1) * 0.5;
-    slope_of(g, leg.fac, height.hwave, phi, azimuth.reta)
+    #[tactic(auto, unfolding(crate::specs::Slope::vee_slope))]
+    pub fn vee_slope(self) -> Slope
+        ensures { result ≡ vee_slope self }
+    {
+        self.slope_of(self.rise())
+    }
+
+    // From end to end lie two legs.
+    pub fn rhombic_slope(self) -> Slope
+        ensures { result ≡ rhombic_slope self }
+    {
+        self.slope_of(self.rise() * 0.5)
+    }
 }

@@ -1,6 +1,6 @@
 use lib.Ieee.{round, of_bits}
 use Rattle.slopes.specs.Slope.{slope_of}
-use Rattle.slopes.proofs.slope.slope_of.Goals as goal
+use Rattle.slopes.proofs.slope.SlopingLegs.slope_of.Goals as goal
 
 pub returns : goal.returns
 unfolding slope_of round of_bits
