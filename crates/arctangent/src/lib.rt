@@ -1,4 +1,6 @@
 // Arctangent, by three ranges of its magnitude, and arcsine.
+#![tactic(auto)]
+
 ghost use Rattle.std.specs.Prelude.{◌≡◌};
 ghost use Rattle.arctangent.specs.Arctangent.{from_base, arctangent_of, arctangent, arcsine};
 
@@ -40,7 +42,7 @@ pub fn asin(y: f32) -> f32
     ensures { result ≡ arcsine y }
 {
     if abs(y) > 1.0 {
-        0.0 / 0.0
+        f32::NAN
     } else {
         atan(y / root::sqrt(1.0 - y * y))
     }

@@ -1,9 +1,12 @@
 // Absolute value, sign, `max(0.00001)`, `as i32`, `powi(2)` and `powi(4)`.
+#![tactic(auto)]
+
 ghost use Rattle.std.specs.Prelude.{◌≡◌};
 ghost use Rattle.single.specs.Single.{is_negative};
 ghost use Rattle.basic.specs.Basic.{absolute, max_small, cut_toward, square, fourth};
 
-// Below zero and at either zero the difference is exact and clears the sign.
+// Below zero and at either zero the difference is exact and clears the sign. The library's `abs`
+// makes two tests of it.
 pub fn abs(x: f32) -> f32
     ensures { result ≡ absolute x }
 {
@@ -14,21 +17,17 @@ pub fn abs(x: f32) -> f32
 pub fn is_negative(x: f32) -> bool
     ensures { result ≡ is_negative x }
 {
-    if x == x {
-        f32::to_bits(x) >= 0x8000_0000
-    } else {
-        false
-    }
+    !x.is_nan() && x.is_sign_negative()
 }
 
 // `max(0.00001)`.
 pub fn max_small(x: f32) -> f32
     ensures { result ≡ max_small x }
 {
-    if x > 0.00001 { x } else { 0.00001 }
+    x.max(0.00001)
 }
 
-// `as i32`.
+// `as i32`. The library's `saturating_f32_to_i32` goes through f64, and each lookup cuts three.
 pub fn cut(x: f32) -> i32
     ensures { result ≡ cut_toward x }
 {
@@ -36,10 +35,10 @@ pub fn cut(x: f32) -> i32
         if x < 2147483648.0 {
             std::num::truncating_f32_to_i64(x) as i32
         } else {
-            2147483647
+            i32::MAX
         }
     } else if x < 0.0 {
-        -2147483648
+        i32::MIN
     } else {
         0
     }

@@ -37,7 +37,7 @@ fn split(b: u32, bias: u32) -> Digits
     ensures { (result.e < 1000) × (ln_at result.m (of_int binary32 (minus result.e bias)) ≡ ln_from (normal_units b) (bias + 23)) }
 {
     let t = b % 8388608;
-    let half = if t < 3474675 { 0 } else { 1 };
+    let half = u32::from(t >= 3474675);
     let m = f32::from_bits(0x3f80_0000 - half * 0x80_0000 + t);
     let e = b / 8388608 + half;
     Digits { m, e }
@@ -67,9 +67,9 @@ pub fn ln(y: f32) -> f32
             y
         }
     } else if y == 0.0 {
-        -1.0 / 0.0
+        f32::NEG_INFINITY
     } else {
-        0.0 / 0.0
+        f32::NAN
     }
 }
 

@@ -8,7 +8,7 @@ use native.Mathlib.Omega.{arith}
 use lib.ListN.{get_or}
 use lib.Dec.{T, lit≤}
 use lib.IntN.{ℤ, pos, negsuc}
-use lib.Ieee.{Float, nan, fin, binary32, round, neg, div, of_bits, of_int, lt, le}
+use lib.Ieee.{Float, nan, fin, binary32, round, neg, of_bits, of_int, lt, le}
 use lib.Ieee.Fits.{and_l, and_r}
 use Rattle.single.proofs.Booleans.{holds}
 use Rattle.single.specs.Single.{◌⊞◌, ◌⊟◌, ◌⊠◌, num, signed}
@@ -94,9 +94,9 @@ module _ (f : ℕ → Float → Float → Float) (x : Float) where
   pub in_range_is : (q : ℕ) (r s c res : Float) → in_range x ≡ true → q ≡ quadrant_of (turns x) → r ≡ reduced x → s ≡ sine_part r (r ⊠ r) → c ≡ cosine_part (r ⊠ r) → res ≡ f q s c → res ≡ of_reduction f x
   in_range_is q r s c res i eq er es ec e = cc
 
-  -- what code writes for NaN is 0.0 / 0.0
-  pub out_of_range_is : in_range x ≡ false → div binary32 (of_bits binary32 0) (of_bits binary32 0) ≡ of_reduction f x
-  unfolding div of_bits
+  -- beyond the range it is `f32::NAN`
+  pub out_of_range_is : in_range x ≡ false → of_bits binary32 0x7fc0_0000 ≡ of_reduction f x
+  unfolding of_bits
   out_of_range_is h = simp h
 
 -- no quarter turn on is the sine, one is the cosine

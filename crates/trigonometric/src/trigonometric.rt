@@ -21,6 +21,7 @@ struct Reduction {
     rest: f32,
 }
 
+// By two comparisons, as its definition: a range's `contains` is no plainer.
 fn in_range(x: f32) -> bool
     ensures { result ≡ in_range x }
 {
@@ -55,7 +56,7 @@ fn turns_float(negative: bool, k: u32) -> f32
     ensures { result ≡ turns_float negative k }
 {
     let m = k as i64;
-    let n = if negative { 0 - m } else { m };
+    let n = if negative { -m } else { m };
     n as f32
 }
 
@@ -139,7 +140,7 @@ fn sine_ahead(x: f32, quarters: u32) -> f32
         let d = reduce(x);
         sine_of((d.quadrant + quarters) % 4, d.rest)
     } else {
-        0.0 / 0.0
+        f32::NAN
     }
 }
 
@@ -168,10 +169,9 @@ pub fn sin_cos(x: f32) -> SineCosine
         let cosine = cosine_at(d.quadrant, s, c);
         SineCosine { sine, cosine }
     } else {
-        let nan = 0.0 / 0.0;
         SineCosine {
-            sine: nan,
-            cosine: nan,
+            sine: f32::NAN,
+            cosine: f32::NAN,
         }
     }
 }

@@ -1,8 +1,8 @@
-use mathlib.Core.Path.{◌≡◌, refl, sym, ◌∙◌, ap}
+use mathlib.Core.Path.{sym, ◌∙◌, ap}
 use mathlib.Core.Bool.{true}
 use Prim.Native.Nat.{ℕ}
 use lib.Dec.{lit<}
-use lib.Ieee.{Float, inf, binary32, of_bits, div, neg}
+use lib.Ieee.{Float, inf, of_bits, div}
 use Rattle.single.proofs.Positive.{positive_no_nan, Subnormal, subnormal, on_normal, on_top, on_zero, on_other}
 use Rattle.logarithm.specs.Logarithm.{ln_from, logarithm}
 use Rattle.logarithm.proofs.Digits.{scaled}
@@ -33,16 +33,12 @@ pub returns-else-b-lt2139095040 : goal.returns-else-b-lt2139095040
 unfolding logarithm
 returns-else-b-lt2139095040 c = on_top (inf true) at_units c.args.y c.well_formed.0.1 c.if-y.true c.if-b-lt2139095040.false
 
-minus_infinity : div binary32 (neg (of_bits binary32 1065353216)) (of_bits binary32 0) ≡ inf true
-unfolding div neg of_bits
-minus_infinity = refl
-
 pub returns-then-y-2 : goal.returns-then-y-2
-unfolding logarithm
-returns-then-y-2 c = minus_infinity ∙ sym (on_zero (inf true) at_units c.args.y c.if-y-2.true)
+unfolding logarithm of_bits
+returns-then-y-2 c = sym (on_zero (inf true) at_units c.args.y c.if-y-2.true)
 
 pub returns-else-y-2 : goal.returns-else-y-2
-unfolding logarithm
+unfolding logarithm of_bits div
 returns-else-y-2 c = on_other (inf true) at_units c.args.y c.if-y.false c.if-y-2.false
 
 pub float_to_bits-b : goal.float_to_bits-b

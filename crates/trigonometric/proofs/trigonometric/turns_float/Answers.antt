@@ -1,16 +1,13 @@
-use mathlib.Core.Path.{◌≡◌, sym, ap, subst, ◌∙◌}
+use mathlib.Core.Path.{◌≡◌, sym, ap, ◌∙◌}
 use mathlib.Core.Bool.{Bool}
 use Prim.Native.Nat.{ℕ, ◌≤◌, ◌<◌, ◌^◌}
 use native.Mathlib.Omega.{arith}
-use lib.Dec.{T}
-use lib.IntN.{ℤ}
-use lib.Ieee.{binary32, of_int, in_float}
+use lib.Ieee.{binary32, of_int}
 use mir.Syntax.{w64}
 use mir.Val.{to_z}
 use Rattle.trigonometric.specs.Turns.{turns_float}
 use Rattle.single.specs.Single.{signed}
-use Rattle.single.proofs.Integers.{as_i64, negated_fits, negated_i64}
-use Rattle.basic.proofs.WholePart.{signed_float}
+use Rattle.single.proofs.Integers.{as_i64, negated_i64}
 use Rattle.trigonometric.proofs.trigonometric.turns_float.Goals as goal
 use Rattle.trigonometric.proofs.trigonometric.turns_float.Goals.{After-row_known-1, then-negative, else-negative}
 
@@ -25,12 +22,6 @@ made c =
       | then-negative w ↦ w.n-is ∙ negated_i64 c.args.k h ∙ ap (λ (s : Bool). signed s c.args.k) (sym w.if-negative.true)
       | else-negative w ↦ w.n-is ∙ as_i64 c.args.k h ∙ ap (λ (s : Bool). signed s c.args.k) (sym w.if-negative.false)
     ]
-
-pub overflow_sub-n : goal.overflow_sub-n
-overflow_sub-n c = negated_fits c.args.k (below _ c.requires)
-
-pub int_to_float-result : goal.int_to_float-result
-int_to_float-result c = subst (λ (z : ℤ). T (in_float binary32 z)) (sym (made c)) (signed_float c.args.negative _ c.requires)
 
 pub returns : goal.returns
 unfolding turns_float
