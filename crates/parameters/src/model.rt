@@ -16,12 +16,14 @@ pub enum Model {
 }
 
 // By its number in C's calls: 0 is compatible, any other corrected.
-pub fn model_of(number: i32) -> Model
-    ensures { result ≡ model_of number }
-{
-    match number {
-        0 => Model::Compatible,
-        _ => Model::Corrected,
+impl From<i32> for Model {
+    ghost from_gives = { λ number model. model ≡ model_of number };
+
+    fn from(number: i32) -> Model {
+        match number {
+            0 => Model::Compatible,
+            _ => Model::Corrected,
+        }
     }
 }
 

@@ -7,7 +7,7 @@ use mir.Val.{of_z}
 use Rattle.parameters.specs.declared.model.Model.TheVariants.{Corrected}
 use Rattle.parameters.specs.Model.{model_of}
 use Rattle.parameters.proofs.Types.{is_type_lem}
-use Rattle.parameters.proofs.model.model_of.Goals as goal
+use Rattle.parameters.proofs.model.ModelFromI32.from.Goals as goal
 
 no_zero : (k : ℤ) → (of_z w32 k ≡ 0 → ⊥) → model_of k ≡ Corrected
 unfolding model_of
