@@ -9,8 +9,7 @@ use borrow.Author.Tests.{ltb-true, ltb-false, le-leb, ne_eqb}
 use lib.Dec.{ltb}
 use lib.IntN.{ℤ, pos, negsuc, nat_abs}
 use lib.ListN.{length, drop, get_or, replicate}
-use Rattle.field_reading.specs.declared.reading.Signed.TheVariants.{Read}
-use Rattle.field_reading.specs.declared.reading.Integer.TheVariants.{Number}
+use Rattle.std.proofs.Common.{Some, one-add}
 use Rattle.output.specs.Field.{spelled, decimal, text, justified, integer_field}
 use Rattle.field_reading.specs.Digits.{spaces_of, read_on, digits_of, unspaced, signed_of}
 use Rattle.field_reading.specs.Integer.{integer, integer_of}
@@ -29,26 +28,26 @@ next : (k n : ℕ) (t : List ℕ) → 10 ≤ n → n ≤ suc k → spelled (suc 
 next k n t h l = turn (suc k) n t h l ∙ ap (λ (x : ℕ). spelled x (ltb (n / 10) 10) (n / 10) ((48 + n % 10) ∷ t)) (let z : suc k - 1 ≡ k = omega arith in z)
 
 -- ---- the digits spell their number
-digit : (m : Bool) (a d : ℕ) (t : List ℕ) → d < 10 → read_on m a ((48 + d) ∷ t) ≡ read_on m (a * 10 + d) t
+digit : (a d : ℕ) (t : List ℕ) → d < 10 → read_on a ((48 + d) ∷ t) ≡ read_on (a * 10 + d) t
 unfolding read_on
-digit m a d t h =
+digit a d t h =
     let lo : 48 ≤ 48 + d = omega arith in
     let hi : 48 + d ≤ 57 = omega arith in
     let e : 48 + d - 48 ≡ d = omega arith in
     rw (le-leb 48 (48 + d) lo, le-leb (48 + d) 57 hi, e) refl
 
-spells : (m : Bool) (k n : ℕ) → n ≤ k → (t : List ℕ) → read_on m 0 (spelled k (ltb n 10) n t) ≡ read_on m n t
-spells m = by_tens (λ (k n : ℕ). (t : List ℕ) → read_on m 0 (spelled k (ltb n 10) n t) ≡ read_on m n t) small large
+spells : (k n : ℕ) → n ≤ k → (t : List ℕ) → read_on 0 (spelled k (ltb n 10) n t) ≡ read_on n t
+spells = by_tens (λ (k n : ℕ). (t : List ℕ) → read_on 0 (spelled k (ltb n 10) n t) ≡ read_on n t) small large
   where
-    small : (k n : ℕ) → n < 10 → (t : List ℕ) → read_on m 0 (spelled k (ltb n 10) n t) ≡ read_on m n t
-    small k n h t = ap (read_on m 0) (last k n t h) ∙ digit m 0 n t h ∙ ap (λ (x : ℕ). read_on m x t) (let z : 0 * 10 + n ≡ n = omega arith in z)
+    small : (k n : ℕ) → n < 10 → (t : List ℕ) → read_on 0 (spelled k (ltb n 10) n t) ≡ read_on n t
+    small k n h t = ap (read_on 0) (last k n t h) ∙ digit 0 n t h ∙ ap (λ (x : ℕ). read_on x t) (let z : 0 * 10 + n ≡ n = omega arith in z)
 
-    large : (k n : ℕ) → 10 ≤ n → n ≤ suc k → ((t : List ℕ) → read_on m 0 (spelled k (ltb (n / 10) 10) (n / 10) t) ≡ read_on m (n / 10) t) → (t : List ℕ) → read_on m 0 (spelled (suc k) (ltb n 10) n t) ≡ read_on m n t
+    large : (k n : ℕ) → 10 ≤ n → n ≤ suc k → ((t : List ℕ) → read_on 0 (spelled k (ltb (n / 10) 10) (n / 10) t) ≡ read_on (n / 10) t) → (t : List ℕ) → read_on 0 (spelled (suc k) (ltb n 10) n t) ≡ read_on n t
     large k n h l rec t =
-        ap (read_on m 0) (next k n t h l)
+        ap (read_on 0) (next k n t h l)
         ∙ rec ((48 + n % 10) ∷ t)
-        ∙ digit m (n / 10) (n % 10) t (omega arith)
-        ∙ ap (λ (x : ℕ). read_on m x t) (let z : n / 10 * 10 + n % 10 ≡ n = omega arith in z)
+        ∙ digit (n / 10) (n % 10) t (omega arith)
+        ∙ ap (λ (x : ℕ). read_on x t) (let z : n / 10 * 10 + n % 10 ≡ n = omega arith in z)
 
 -- ---- a number below 10 ^ j has at most j digits
 few : (k n : ℕ) → n ≤ k → (j : ℕ) (t : List ℕ) → n < 10 ^ suc j → length (spelled k (ltb n 10) n t) ≤ suc j + length t
@@ -80,39 +79,37 @@ begins = by_tens (λ (k n : ℕ). (t : List ℕ) → Begins (spelled k (ltb n 10
 
 -- ---- the spaces
 none : (l : List ℕ) → (get_or l 0 0 ≡ 32 → ⊥) → spaces_of l ≡ 0
-unfolding spaces_of
 none [] h = refl
 none (b ∷ l) h = rw (ne_eqb b 32 h) refl
 
 after_spaces : (k : ℕ) (l : List ℕ) → spaces_of l ≡ 0 → drop (spaces_of (replicate k 32 ++ l)) (replicate k 32 ++ l) ≡ l
-unfolding spaces_of
 after_spaces zero l e = rw e refl
-after_spaces (suc k) l e = after_spaces k l e
+after_spaces (suc k) l e = rw (one-add (spaces_of (replicate k 32 ++ l))) (after_spaces k l e)
 
 -- ---- the whole
-digits_of_lem : (m : Bool) (n : ℕ) → n < 10 ^ 18 → digits_of m 18 (decimal n) ≡ Read m n
+digits_of_lem : (n : ℕ) → n < 10 ^ 18 → digits_of 18 (decimal n) ≡ Some n
 unfolding digits_of decimal read_on
-digits_of_lem m n h =
+digits_of_lem n h =
     let l : 1 ≤ length (spelled n (ltb n 10) n []) = (let z = longer n (ltb n 10) n [] in omega arith) in
     let u : length (spelled n (ltb n 10) n []) ≤ 18 = (let z = few n n (omega arith) 17 [] h in omega arith) in
-    rw (le-leb 1 (length (spelled n (ltb n 10) n [])) l, le-leb (length (spelled n (ltb n 10) n [])) 18 u) (spells m n n (omega arith) [])
+    rw (le-leb 1 (length (spelled n (ltb n 10) n [])) l, le-leb (length (spelled n (ltb n 10) n [])) 18 u) (spells n n (omega arith) [])
 
 first : (n : ℕ) → Begins (decimal n)
 unfolding decimal
 first n = begins n n (omega arith) []
 
-unspaced_of : (v : ℤ) → nat_abs v < 10 ^ 18 → integer (unspaced 18 (text v)) ≡ Number v
+unspaced_of : (v : ℤ) → nat_abs v < 10 ^ 18 → integer (unspaced 18 (text v)) ≡ Some v
 unfolding unspaced text integer
 unspaced_of (pos n) h =
     let b = first n in
-    rw (ne_eqb (get_or (decimal n) 0 0) 45 (λ (e : get_or (decimal n) 0 0 ≡ 45). omega (arith, b.0, e)), digits_of_lem false n h) refl
-unspaced_of (negsuc n) h = rw (digits_of_lem true (suc n) h) refl
+    rw (ne_eqb (get_or (decimal n) 0 0) 45 (λ (e : get_or (decimal n) 0 0 ≡ 45). omega (arith, b.0, e)), digits_of_lem n h) refl
+unspaced_of (negsuc n) h = rw (digits_of_lem (suc n) h) refl
 
 no_space : (v : ℤ) → spaces_of (text v) ≡ 0
 unfolding text
 no_space (pos n) = let b = first n in none (decimal n) (λ (e : get_or (decimal n) 0 0 ≡ 32). omega (arith, b.0, e))
 no_space (negsuc n) = none (45 ∷ decimal (suc n)) (λ (e : ◌≡◌ {A = ℕ} 45 32). omega (arith, e))
 
-pub reads_back : (v : ℤ) (w : ℕ) → length (text v) ≤ w → nat_abs v < 10 ^ 18 → integer_of (integer_field v w) ≡ Number v
+pub reads_back : (v : ℤ) (w : ℕ) → length (text v) ≤ w → nat_abs v < 10 ^ 18 → integer_of (integer_field v w) ≡ Some v
 unfolding integer_of integer_field justified signed_of
 reads_back v w h b = rw (le-leb (length (text v)) w h, after_spaces (w - length (text v)) (text v) (no_space v)) (unspaced_of v b)

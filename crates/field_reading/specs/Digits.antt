@@ -1,26 +1,30 @@
 -- Document 01 section 10, numbers of a line: "right-justified after spaces: optional minus, digits". Definitions only.
-use Rattle.std.specs.Prelude.{ℕ, suc, ◌+◌, ◌-◌, ◌*◌, Bool, true, false, cond, ◌&&◌, List, [], ◌∷◌, leb, eqb, length, drop, get_or}
+use Rattle.std.specs.Prelude.{ℕ, ◌+◌, ◌-◌, ◌*◌, Bool, true, false, cond, ◌&&◌, List, [], ◌∷◌, leb, eqb, length, drop, get_or, Option, Some, None}
+use Rattle.std.specs.List.{prefix_len}
 use Rattle.field_reading.specs.declared.reading.Signed.{Signed}
-use Rattle.field_reading.specs.declared.reading.Signed.TheVariants.{Read, Unread}
 
 -- how many spaces l begins with
-unfoldable pub spaces_of : List ℕ → ℕ
-spaces_of [] = 0
-spaces_of (b ∷ l) = cond (eqb b 32) (suc (spaces_of l)) 0
+abbrev pub spaces_of : List ℕ → ℕ
+spaces_of l = prefix_len (λ b. eqb b 32) l
 
 -- l is digits to its end; n is what the digits before it spell
-unfoldable pub read_on : Bool → ℕ → List ℕ → Signed
-read_on minus n [] = Read minus n
-read_on minus n (b ∷ l) = cond (leb 48 b && leb b 57) (read_on minus (n * 10 + (b - 48)) l) Unread
+unfoldable pub read_on : ℕ → List ℕ → Option ℕ
+read_on n [] = Some n
+read_on n (b ∷ l) = cond (leb 48 b && leb b 57) (read_on (n * 10 + (b - 48)) l) None
 
 -- l is 1 to most digits, of which any may be leading zeros
-unfoldable pub digits_of : Bool → ℕ → List ℕ → Signed
-digits_of minus most l = cond (leb 1 (length l) && leb (length l) most) (read_on minus 0 l) Unread
+unfoldable pub digits_of : ℕ → List ℕ → Option ℕ
+digits_of most l = cond (leb 1 (length l) && leb (length l) most) (read_on 0 l) None
+
+-- a magnitude, and the sign that stood before it
+abbrev pub with_sign : Bool → Option ℕ → Option Signed
+with_sign minus None = None
+with_sign minus (Some n) = Some (record { minus = minus; magnitude = n })
 
 -- l is an optional minus, then 1 to most digits
-unfoldable pub unspaced : ℕ → List ℕ → Signed
-unspaced most l = cond (eqb (get_or l 0 0) 45) (digits_of true most (drop 1 l)) (digits_of false most l)
+unfoldable pub unspaced : ℕ → List ℕ → Option Signed
+unspaced most l = cond (eqb (get_or l 0 0) 45) (with_sign true (digits_of most (drop 1 l))) (with_sign false (digits_of most l))
 
 -- l is spaces, an optional minus, 1 to most digits: a sign and a magnitude
-unfoldable pub signed_of : ℕ → List ℕ → Signed
+unfoldable pub signed_of : ℕ → List ℕ → Option Signed
 signed_of most l = unspaced most (drop (spaces_of l) l)

@@ -32,8 +32,8 @@ fn quotient(n: u64) -> f32
     let mut m = n * 1024;
     let mut k: u32 = 139;
     while m < 83_886_080_000 {
-        m = m * 2;
-        k = k - 1;
+        m *= 2;
+        k -= 1;
     }
     f32::from_bits(k * 8_388_608 + rounded(m) as u32)
 }
@@ -44,10 +44,5 @@ pub(crate) fn ten_thousandths(minus: bool, n: u64) -> f32
     ensures { result ≡ ten_thousandths minus n }
 {
     let x = quotient(n);
-    if minus {
-        if n > 0 {
-            return -x;
-        }
-    }
-    x
+    if minus && n > 0 { -x } else { x }
 }

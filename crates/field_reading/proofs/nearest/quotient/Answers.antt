@@ -1,6 +1,6 @@
 use native.Mathlib.Omega.{arith}
 use mathlib.Core.Path.{refl, sym, ap, subst, ◌∙◌}
-use Prim.Native.Nat.{ℕ, ◌-◌, ◌+◌, ◌*◌, ◌≤◌}
+use Prim.Native.Nat.{ℕ, ◌+◌, ◌*◌, ◌≤◌}
 use lib.Ieee.{binary32, of_bits, round}
 use Rattle.field_reading.proofs.Round.{scaling_starts, scaling_step, above, near_hi, rounds}
 use Rattle.single.proofs.Sign.{finite_bits}

@@ -1,36 +1,37 @@
-use native.Mathlib.Omega.{arith}
-use Prim.Native.Nat.{◌-◌, ◌^◌, ◌<◌}
-use mathlib.Core.Path.{refl}
-use Rattle.field_reading.proofs.Steps.{below, digit_step, digit_low, digit_high, digit_ends, counted, empty, too_many}
+use Rattle.std.proofs.Common.{arith, sym, ◌∙◌, ◌^◌, ◌<◌}
+use Rattle.field_reading.proofs.Steps.{below, digits_start, digit_step, digit_low, digit_high, digit_ends, counted, empty, too_many}
 use Rattle.field_reading.proofs.reading.digits.Goals as goal
-use Rattle.field_reading.proofs.reading.digits.Goals.{Else-b-gt57}
+use Rattle.field_reading.proofs.reading.digits.Goals.{Else-b-gt57, then-is_empty-via-then-is_empty, then-is_empty-via-else-is_empty+then-most-s, then-b-lt48-via-then-b-lt48, then-b-lt48-via-else-b-lt48+then-b-gt57}
 
-small : (c : Else-b-gt57) → c.loop-i.n < 10 ^ 17
-small c = below _ _ _ _ c.loop-i.invariant c.loop-i-test.true (omega arith)
+small : (c : Else-b-gt57) → c.loop-b.n < 10 ^ 17
+small c = below _ _ _ c.loop-b.invariant c.loop-b-test.true (omega arith)
 
-pub returns-then-s-eq0 : goal.returns-then-s-eq0
-returns-then-s-eq0 c = empty _ _ _ c.if-s-eq0.true
+pub returns-then-is_empty : goal.returns-then-is_empty
+returns-then-is_empty c =
+    elim c.then-is_empty.branch [
+      | then-is_empty-via-then-is_empty w ↦ empty _ _ (sym c.is_empty.ensures ∙ w.if-is_empty.true)
+      | then-is_empty-via-else-is_empty+then-most-s w ↦ too_many _ _ w.if-most-s.true
+    ]
 
-pub returns-then-most-s : goal.returns-then-most-s
-returns-then-most-s c = too_many _ _ _ c.if-most-s.true
-
-pub loop-i-init : goal.loop-i-init
-loop-i-init c = record { low = omega arith; small = omega arith; rest = refl }
+pub loop-b-init : goal.loop-b-init
+loop-b-init c = digits_start _
 
 pub returns-then-b-lt48 : goal.returns-then-b-lt48
-returns-then-b-lt48 c = counted _ _ _ _ c.if-s-eq0.false c.if-most-s.false (digit_low _ _ _ _ c.loop-i.invariant c.loop-i-test.true c.if-b-lt48.true)
-
-pub returns-then-b-gt57 : goal.returns-then-b-gt57
-returns-then-b-gt57 c = counted _ _ _ _ c.if-s-eq0.false c.if-most-s.false (digit_high _ _ _ _ c.loop-i.invariant c.loop-i-test.true c.if-b-lt48.false c.if-b-gt57.true)
+returns-then-b-lt48 c =
+    counted _ _ _ (sym c.is_empty.ensures ∙ c.if-is_empty.false) c.if-most-s.false
+    (elim c.then-b-lt48.branch [
+      | then-b-lt48-via-then-b-lt48 w ↦ digit_low _ _ _ c.loop-b.invariant c.loop-b-test.true w.if-b-lt48.true
+      | then-b-lt48-via-else-b-lt48+then-b-gt57 w ↦ digit_high _ _ _ c.loop-b.invariant c.loop-b-test.true w.if-b-lt48.false w.if-b-gt57.true
+    ])
 
 pub overflow_mul-n : goal.overflow_mul-n
 overflow_mul-n c = let h = small c in omega arith
 
 pub overflow_add-n : goal.overflow_add-n
-overflow_add-n c = let h = small c in omega arith
+overflow_add-n c = let h = small (goal.at.overflow_add-n c).Else-b-gt57 in omega arith
 
-pub loop-i-preserved : goal.loop-i-preserved
-loop-i-preserved c = digit_step _ _ _ _ c.loop-i.invariant c.loop-i-test.true c.if-b-lt48.false c.if-b-gt57.false
+pub loop-b-preserved : goal.loop-b-preserved
+loop-b-preserved c = digit_step _ _ _ c.loop-b.invariant c.loop-b-test.true c.if-b-lt48.false c.if-b-gt57.false
 
 pub returns : goal.returns
-returns c = counted _ _ _ _ c.if-s-eq0.false c.if-most-s.false (digit_ends _ _ _ _ c.loop-i.invariant c.loop-i-test.false)
+returns c = counted _ _ _ (sym c.is_empty.ensures ∙ c.if-is_empty.false) c.if-most-s.false (digit_ends _ _ _ c.loop-b.invariant c.loop-b-test.false)

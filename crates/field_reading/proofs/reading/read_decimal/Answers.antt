@@ -1,42 +1,40 @@
-use mathlib.Core.Path.{sym}
-use native.Mathlib.Omega.{arith}
-use lib.Seq.{length-take-le}
+use Rattle.std.proofs.Common.{◌∙◌, ◌<◌, arith}
 use Rattle.field_reading.proofs.Malformed.{decimal_reading}
 use Rattle.field_reading.proofs.Parts.{too_short, no_front, no_back, no_point, value, a_below, b_below}
 use Rattle.field_reading.proofs.reading.read_decimal.Goals as goal
+use Rattle.field_reading.proofs.reading.read_decimal.Goals.{In_ok-decimals}
 
-pub returns-then-s-lt6 : goal.returns-then-s-lt6
-returns-then-s-lt6 c = decimal_reading _ _ (too_short _ c.if-s-lt6.true)
+pub returns-in_err-point : goal.returns-in_err-point
+returns-in_err-point c = decimal_reading _ _ (c.from_residual.ensures ∙ too_short _ c.in_err-point.ensures)
 
-pub slice_bounds-signed_digits-end : goal.slice_bounds-signed_digits-end
-slice_bounds-signed_digits-end c = sym (length-take-le _ _ (omega arith))
+pub returns-in_err-minus : goal.returns-in_err-minus
+returns-in_err-minus c = decimal_reading _ _ (c.from_residual-in_err-minus.ensures ∙ no_front _ _ c.in_ok-point.ensures.0 c.in_ok-point.ensures.1 _ c.signed_digits.ensures c.in_err-minus.was)
 
-pub returns-in_default : goal.returns-in_default
-returns-in_default c = decimal_reading _ _ (no_front _ _ c.signed_digits.ensures c.in_default.is)
+pub returns-in_err-decimals : goal.returns-in_err-decimals
+returns-in_err-decimals c = decimal_reading _ _ (c.from_residual-in_err-decimals.ensures ∙ no_back _ _ c.in_ok-point.ensures.0 c.in_ok-point.ensures.1 _ c.signed_digits.ensures _ c.in_ok-minus.was _ c.digits.ensures c.in_err-decimals.was)
 
-pub returns-in_default-digits : goal.returns-in_default-digits
-returns-in_default-digits c = decimal_reading _ _ (no_back _ _ _ _ _ c.signed_digits.ensures c.in-Read.is c.digits.ensures c.in_default-digits.is)
+-- the numbers on both sides of the point
+small : (c : In_ok-decimals) → (c.in_ok-minus.field-0.magnitude < 10000) × (c.in_ok-decimals.decimals < 10000)
+small c =
+    let l = c.args.s.now in
+    let w = c.in_ok-point.ensures.0 in
+    let q = c.in_ok-point.ensures.1 in
+    (
+      a_below l _ w q _ c.signed_digits.ensures _ c.in_ok-minus.was _ c.digits.ensures,
+      b_below l _ w q _ c.signed_digits.ensures _ c.in_ok-minus.was _ c.digits.ensures _ c.in_ok-decimals.was,
+    )
 
 pub returns-then-s-point-ne46 : goal.returns-then-s-point-ne46
-returns-then-s-point-ne46 c = decimal_reading _ _ (no_point _ _ _ _ _ c.signed_digits.ensures c.in-Read.is c.digits.ensures _ _ c.in-Read-digits.is c.if-s-point-ne46.true)
+returns-then-s-point-ne46 c = decimal_reading _ _ (no_point _ _ c.in_ok-point.ensures.0 c.in_ok-point.ensures.1 _ c.signed_digits.ensures _ c.in_ok-minus.was _ c.digits.ensures _ c.in_ok-decimals.was c.if-s-point-ne46.true)
 
-pub overflow_mul-a : goal.overflow_mul-a
-overflow_mul-a c =
-    let a = a_below c.args.s.now _ _ _ _ c.signed_digits.ensures c.in-Read.is c.digits.ensures in
-    let b = b_below c.args.s.now _ _ _ _ c.signed_digits.ensures c.in-Read.is c.digits.ensures _ _ c.in-Read-digits.is in
-    omega arith
+pub overflow_mul-magnitude : goal.overflow_mul-magnitude
+overflow_mul-magnitude c = let k = small (goal.at.overflow_mul-magnitude c).In_ok-decimals in omega arith
 
-pub overflow_add-a : goal.overflow_add-a
-overflow_add-a c =
-    let a = a_below c.args.s.now _ _ _ _ c.signed_digits.ensures c.in-Read.is c.digits.ensures in
-    let b = b_below c.args.s.now _ _ _ _ c.signed_digits.ensures c.in-Read.is c.digits.ensures _ _ c.in-Read-digits.is in
-    omega arith
+pub overflow_add-magnitude : goal.overflow_add-magnitude
+overflow_add-magnitude c = let k = small (goal.at.overflow_add-magnitude c).In_ok-decimals in omega arith
 
 pub ten_thousandths-requires : goal.ten_thousandths-requires
-ten_thousandths-requires c =
-    let a = a_below c.args.s.now _ _ _ _ c.signed_digits.ensures c.in-Read.is c.digits.ensures in
-    let b = b_below c.args.s.now _ _ _ _ c.signed_digits.ensures c.in-Read.is c.digits.ensures _ _ c.in-Read-digits.is in
-    omega arith
+ten_thousandths-requires c = let k = small (goal.at.ten_thousandths-requires c).In_ok-decimals in omega arith
 
 pub returns : goal.returns
-returns c = decimal_reading _ _ (value _ _ _ _ _ c.signed_digits.ensures c.in-Read.is c.digits.ensures _ _ c.in-Read-digits.is _ c.if-s-point-ne46.false c.ten_thousandths.ensures)
+returns c = decimal_reading _ _ (value _ _ c.in_ok-point.ensures.0 c.in_ok-point.ensures.1 _ c.signed_digits.ensures _ c.in_ok-minus.was _ c.digits.ensures _ c.in_ok-decimals.was _ c.if-s-point-ne46.false c.ten_thousandths.ensures)
