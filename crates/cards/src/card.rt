@@ -1,3 +1,4 @@
+#![tactic(auto)]
 // A card as it is read: its leg and height are each metres or wavelengths.
 ghost use Rattle.std.specs.Prelude.{◌≡◌};
 ghost use Rattle.cards.specs.Card.{card_of, antenna_for};

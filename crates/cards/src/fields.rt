@@ -1,8 +1,11 @@
+#![tactic(auto)]
 // A card's plain fields, and what is refused of them.
 ghost use Rattle.std.specs.Prelude.{◌≡◌};
+ghost use Rattle.refusals.specs.Refusals.{IsJudged};
 ghost use Rattle.cards.specs.Fields.{whole_outside, fields_outside, fields_refusal};
 
 use parameters::Model;
+use refusals::Refusal;
 
 const MOST: i32 = 1000;
 
@@ -21,7 +24,7 @@ pub struct Fields {
 fn whole_outside(n: i32) -> bool
     ensures { result ≡ whole_outside n }
 {
-    if -MOST <= n { !(n <= MOST) } else { true }
+    !(-MOST..=MOST).contains(&n)
 }
 
 // All that is handed in, used by the type or not.
@@ -35,21 +38,14 @@ fn fields_outside(fields: Fields) -> bool
         slots,
         ..
     } = fields;
-    let numbers = [toaz];
-    if limits::any_outside(&numbers) {
-        return true;
-    }
-    if limits::any_outside(&slots) {
-        return true;
-    }
-    if whole_outside(first) {
-        return true;
-    }
-    whole_outside(last)
+    limits::any_outside(&[toaz])
+        || limits::any_outside(&slots)
+        || whole_outside(first)
+        || whole_outside(last)
 }
 
-pub fn fields_refusal(fields: Fields) -> u32
-    ensures { result ≡ fields_refusal fields }
+pub fn fields_refusal(fields: Fields) -> Result<(), Refusal>
+    ensures { IsJudged (fields_refusal fields) result }
 {
     let outside = fields_outside(fields);
     let Fields {
@@ -60,6 +56,6 @@ pub fn fields_refusal(fields: Fields) -> u32
         ..
     } = fields;
     let params = parameters::ioninit(kop, &slots);
-    let in_range = table::is_range(first, last);
-    limits::input_refusal(kop, outside, params.asig, !in_range, params.and)
+    let mhz_outside = !table::is_range(first, last);
+    limits::input_refusal(kop, outside, params.asig, mhz_outside, params.and)
 }

@@ -1,3 +1,4 @@
+#![tactic(auto)]
 // A card of document 01 section 8: its plain fields, what is refused of them, and the card as it is
 // read.
 mod card;

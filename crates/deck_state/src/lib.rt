@@ -1,7 +1,11 @@
+#![tactic(auto)]
 // A deck's carried height and counts: document 01 section 8.
 ghost use Rattle.std.specs.Prelude.{◌≡◌};
+ghost use Rattle.refusals.specs.Refusals.{number_of, IsJudged};
 ghost use Rattle.independence.specs.Deck.{fresh};
 ghost use Rattle.deck_state.specs.DeckState.{deck_of, state_of, is_full, deck_refusal, refused_within};
+
+use refusals::Refusal;
 
 // From here on a card is refused by 10.
 const COUNT_LIMIT: u64 = 1_000_000;
@@ -31,29 +35,26 @@ fn is_full(deck: Deck) -> bool
 }
 
 // Refusals 10, 9 and 7: what is refused of any entry.
-pub fn deck_refusal(deck: Deck, table: &[f32]) -> u32
-    ensures { result ≡ deck_refusal (state_of deck) table.now }
+pub fn deck_refusal(deck: Deck, table: &[f32]) -> Result<(), Refusal>
+    ensures { IsJudged (deck_refusal (state_of deck) table.now) result }
 {
     if is_full(deck) {
-        return 10;
+        return Err(Refusal::Count);
     }
     if !limits::is_finite(deck.height) {
-        return 9;
+        return Err(Refusal::Height);
     }
     if !table::is_table(table) {
-        return 7;
+        return Err(Refusal::Length);
     }
-    0
+    Ok(())
 }
 
 // 10 raises no count, and a full deck's counts stay.
-pub fn refused_deck(deck: Deck, verdict: u32) -> Deck
-    ensures { result ≡ deck_of (refused_within (state_of deck) verdict) }
+pub fn refused_deck(deck: Deck, refusal: Refusal) -> Deck
+    ensures { result ≡ deck_of (refused_within (state_of deck) (number_of refusal)) }
 {
-    if is_full(deck) {
-        return deck;
-    }
-    if verdict == 10 {
+    if is_full(deck) || refusal == Refusal::Count {
         return deck;
     }
     Deck {
