@@ -1,3 +1,4 @@
+#![tactic(auto)]
 // The table of document 01 section 7: 30 rows (1 to 30 MHz) of 91 gains (0 to 90 degrees), then 30
 // efficiencies.
 ghost use Rattle.std.specs.Prelude.{◌≡◌};
@@ -13,6 +14,8 @@ pub const GAINS: usize = 2730;
 
 pub const TABLE_LENGTH: usize = 2760;
 
+pub type Table = [f32; TABLE_LENGTH];
+
 // The last row, as a card says it.
 const MOST_MHZ: i32 = 30;
 
@@ -26,31 +29,21 @@ pub fn is_table(table: &[f32]) -> bool
 pub fn fill(table: &mut [f32], x: f32)
     ensures { table.new ≡ filled_with table.old x }
 {
-    let mut i: usize = 0;
-    while i < table.len() {
-        table[i] = x;
-        i += 1;
-    }
+    table.fill(x);
 }
 
 // A refused card's table: all zeros, or untouched if its length is wrong.
 pub fn clear_refused(table: &mut [f32])
     ensures { table.new ≡ refused_table table.old }
 {
-    if table.len() != TABLE_LENGTH {
-        return;
+    if is_table(table) {
+        table.fill(0.0);
     }
-    fill(table, 0.0);
 }
 
 // 1 to 30 MHz, the first not above the last.
 pub fn is_range(first: i32, last: i32) -> bool
     ensures { result ≡ is_range first last }
 {
-    if 1 <= first {
-        if first <= last {
-            return last <= MOST_MHZ;
-        }
-    }
-    false
+    1 <= first && first <= last && last <= MOST_MHZ
 }

@@ -1,17 +1,19 @@
-use mathlib.Core.Path.{ap, ◌∙◌}
+use mathlib.Core.Path.{◌≡◌, ap, sym, ◌∙◌}
+use mathlib.Core.Bool.{true}
+use borrow.Author.Rules.{rules}
+use borrow.Author.Tests.{eqb-true}
 use lib.ListN.{replicate}
 use lib.Ieee.{round, of_bits}
-use borrow.Author.Tests.{eq-eqb, ne_eqb}
 use Rattle.single.specs.Single.{num}
-use Rattle.table.specs.Table.{is_table, filled_with, cleared, refused_table}
+use Rattle.table.specs.Table.{is_table, table_length, cleared, refused_table}
 use Rattle.table.proofs.clear_refused.Goals as goal
 
-pub returns-then-table-ne-TABLE_LENGTH : goal.returns-then-table-ne-TABLE_LENGTH
-unfolding refused_table is_table
-returns-then-table-ne-TABLE_LENGTH c = simp (ne_eqb _ _ c.if-table-ne-TABLE_LENGTH.true)
+pub returns-then-is_table : goal.returns-then-is_table
+unfolding refused_table cleared is_table round of_bits
+returns-then-is_table c =
+    let t : is_table c.args.table.now ≡ true = sym c.is_table.ensures ∙ c.if-is_table.true in
+    rw t (c.fill.ensures.after (search rules) ∙ ap (λ k. replicate k (num 0 1)) (eqb-true _ table_length t))
 
-pub returns : goal.returns
-unfolding refused_table filled_with cleared is_table round of_bits
-returns c =
-    let n = c.if-table-ne-TABLE_LENGTH.false in
-    simp (eq-eqb _ _ n) (c.fill.ensures ∙ ap (λ k. replicate k (num 0 1)) n)
+pub returns-else-is_table : goal.returns-else-is_table
+unfolding refused_table
+returns-else-is_table c = rw (← c.is_table.ensures, c.if-is_table.false)
