@@ -1,4 +1,6 @@
 // Replaying the oracle's lists: hexadecimal fields, numbers by their bits, the count of lines.
+#![tactic(auto)]
+
 mod tally;
 
 ghost use Rattle.std.specs.Prelude.{◌≡◌};
@@ -11,16 +13,10 @@ pub use tally::{MOST_LINES, Tally, counted};
 pub fn digit(b: u8) -> u32
     ensures { result ≡ digit_of b }
 {
-    if b < 48 {
-        0
-    } else if b <= 57 {
-        (b - 48) as u32
-    } else if b < 97 {
-        0
-    } else if b <= 102 {
-        (b - 87) as u32
-    } else {
-        0
+    match b {
+        b'0'..=b'9' => (b - b'0') as u32,
+        b'a'..=b'f' => (b - b'a' + 10) as u32,
+        _ => 0,
     }
 }
 
@@ -29,10 +25,8 @@ pub fn hex(field: &[u8]) -> u32
     ensures { result ≡ hex_of field.now }
 {
     let mut n: u64 = 0;
-    let mut k: usize = 0;
-    while k < field.len() {
-        n = (n * 16 + digit(field[k]) as u64) % 4294967296;
-        k += 1;
+    for &b in field {
+        n = (n * 16 + digit(b) as u64) % 4294967296;
     }
     n as u32
 }
@@ -41,11 +35,7 @@ pub fn hex(field: &[u8]) -> u32
 pub fn signed(bits: u32) -> i32
     ensures { result ≡ signed_of bits }
 {
-    if bits < 0x8000_0000 {
-        bits as i32
-    } else {
-        !((0xffff_ffff - bits) as i32)
-    }
+    bits.cast_signed()
 }
 
 // Any NaN is the same as any NaN.

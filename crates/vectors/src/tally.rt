@@ -14,10 +14,7 @@ pub struct Tally {
 fn one_more(count: u64) -> u64
     ensures { result ≡ one_more count }
 {
-    if count < MOST_LINES {
-        return count + 1;
-    }
-    count
+    if count < MOST_LINES { count + 1 } else { count }
 }
 
 pub fn counted(tally: Tally, equal: bool) -> Tally

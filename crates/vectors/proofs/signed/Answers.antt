@@ -1,19 +1,10 @@
-use mathlib.Core.Path.{◌≡◌, refl, ap}
-use Prim.Native.Nat.{ℕ, ◌-◌, ◌≤◌}
-use native.Mathlib.Omega.{arith}
+use mathlib.Core.Path.{◌∙◌}
 use mir.Syntax.{w32}
-use mir.Val.{to_z}
-use borrow.Author.Rules.{rules}
+use mir.ValLaws.{to_z-of_z}
+use borrow.Author.Rules.{sfits_of}
 use Rattle.vectors.specs.Line.{signed_of}
 use Rattle.vectors.proofs.signed.Goals as goal
 
-complement_twice : (n : ℕ) → n ≤ 4294967295 → 4294967295 - (4294967295 - n) ≡ n
-complement_twice n n_fits = omega arith
-
-pub returns-then-bits-lt2147483648 : goal.returns-then-bits-lt2147483648
+pub returns : goal.returns
 unfolding signed_of
-returns-then-bits-lt2147483648 c = refl
-
-pub returns-else-bits-lt2147483648 : goal.returns-else-bits-lt2147483648
-unfolding signed_of
-returns-else-bits-lt2147483648 c = ap (to_z w32) (complement_twice c.args.bits (search rules))
+returns c = let r = c.cast_signed in to_z-of_z w32 r.result (sfits_of r.type_inv) ∙ r.ensures

@@ -6,6 +6,6 @@ pub returns-then-count-lt-MOST_LINES : goal.returns-then-count-lt-MOST_LINES
 unfolding one_more
 returns-then-count-lt-MOST_LINES c = rw (lt-ltb c.args.count 1000000 c.if-count-lt-MOST_LINES.true)
 
-pub returns : goal.returns
+pub returns-else-count-lt-MOST_LINES : goal.returns-else-count-lt-MOST_LINES
 unfolding one_more
-returns c = rw (le-ltb c.args.count 1000000 c.if-count-lt-MOST_LINES.false)
+returns-else-count-lt-MOST_LINES c = rw (le-ltb c.args.count 1000000 c.if-count-lt-MOST_LINES.false)
