@@ -1,5 +1,5 @@
 -- Document 01 section 4: type 8, the inverted L of `iongain2`. Definitions only.
-use Rattle.std.specs.Prelude.{ℕ, Bool, cond, Float}
+use Rattle.std.specs.Prelude.{Bool, cond, Float, Option}
 use Rattle.std.specs.Float.Ieee.{eq, lt}
 use Rattle.single.specs.Single.{◌⊞◌, ◌⊟◌, ◌⊠◌, ◌⊘◌, num}
 use Rattle.elementary.specs.Basic.{square}
@@ -11,11 +11,9 @@ use Rattle.angles.specs.declared.angles.Elevation.{Elevation}
 use Rattle.reflection.specs.declared.ground.Ground.{Ground}
 use Rattle.integrals.specs.Pair.{pair_settles}
 use Rattle.resistance.specs.Resistance.{resistance_of}
-use Rattle.resistance.specs.declared.resistance.Resistance.{Resistance}
-use Rattle.resistance.specs.declared.resistance.Resistance.TheVariants as Ra
+use Rattle.integrals.specs.Settled.{settled_map}
+use Rattle.integrals.specs.declared.settled.Settled.{Settled}
 use Rattle.inverted_l.specs.declared.inverted_l.InvertedL.{InvertedL}
-use Rattle.inverted_l.specs.declared.inverted_l.InvertedLRow.{InvertedLRow}
-use Rattle.inverted_l.specs.declared.inverted_l.InvertedLRow.TheVariants as Row
 
 -- the efficiency in dB: below 0.20 wavelengths 20.0 * e.log10(), minus infinity at 0
 unfoldable pub eff8_of : Float → Float
@@ -24,10 +22,9 @@ eff8_of hwave =
     let e = twave ⊠ (num 6335 1000 ⊞ twave ⊠ (num 6795 100 ⊟ twave ⊠ (num 693 1 ⊟ num 1600 1 ⊠ twave))) in
     cond (lt twave (num 20 100)) (num 20 1 ⊠ logarithm10 e) (num 0 1)
 
-abbrev pub row_from : Float → Float → Resistance → InvertedLRow
-row_from fac2 hwave (Ra.Settled ra turns) =
-    Row.Settled
-    (record {
+abbrev pub row_from : Float → Float → Float → InvertedL
+row_from fac2 hwave ra =
+    record {
       fac2 = fac2;
       hwave = hwave;
       cfac2 = cosine fac2;
@@ -36,32 +33,21 @@ row_from fac2 hwave (Ra.Settled ra turns) =
       ssum = sine (hwave ⊞ fac2);
       ra = ra;
       eff8 = eff8_of hwave;
-    })
-    turns
-row_from fac2 hwave Ra.Unsettled = Row.Unsettled
+    }
 
 -- what a row takes from the leg's fac and the height's hwave: hac2 = hwave + hwave and hac4 = hac2 + hac2
-unfoldable pub inverted_l_row : Float → Float → InvertedLRow
+unfoldable pub inverted_l_row : Float → Float → Option (Settled InvertedL)
 inverted_l_row fac hwave =
     let hac2 = hwave ⊞ hwave in
-    row_from (fac ⊠ num 2 1) hwave (resistance_of hac2 (hac2 ⊞ hac2))
+    settled_map (row_from (fac ⊠ num 2 1) hwave) (resistance_of hac2 (hac2 ⊞ hac2))
 
 unfoldable pub inverted_l_settles : Float → Bool
 inverted_l_settles hwave = let hac2 = hwave ⊞ hwave in pair_settles hac2 (hac2 ⊞ hac2)
-
--- document 01's number and values of a row's answer: zeros where it is refused
-unfoldable pub inverted_l_number : InvertedLRow → ℕ
-inverted_l_number (Row.Settled row turns) = 0
-inverted_l_number Row.Unsettled = 11
 
 abbrev pub zero_inverted_l : InvertedL
 zero_inverted_l =
     let o = num 0 1 in
     record { fac2 = o; hwave = o; cfac2 = o; sfac2 = o; csum = o; ssum = o; ra = o; eff8 = o }
-
-unfoldable pub inverted_l_values : InvertedLRow → InvertedL
-inverted_l_values (Row.Settled row turns) = row
-inverted_l_values Row.Unsettled = zero_inverted_l
 
 -- g2, from u, hk, c and sphip
 unfoldable pub g2_of : InvertedL → Azimuth → Elevation → Ground → Float

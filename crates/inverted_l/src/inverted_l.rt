@@ -1,13 +1,14 @@
 // Inverted L, type 8.
 ghost use Rattle.std.specs.Prelude.{◌≡◌};
 ghost use Rattle.single.specs.Answer.{IsAnswer};
-ghost use Rattle.inverted_l.specs.InvertedL.{inverted_l_settles, inverted_l_number, inverted_l_values, zero_inverted_l};
+ghost use Rattle.inverted_l.specs.InvertedL.{inverted_l_settles, zero_inverted_l};
+ghost use Rattle.integrals.specs.Settled.{unsettled_number, settled_value};
 ghost use Rattle.inverted_l.specs.InvertedL.{eff8_of, inverted_l_row, g2_of, bprim_of, f1_of, inverted_l_rain};
 
 use angles::{Azimuth, Elevation};
-use integrals::Turns;
+use integrals::Settled;
 use reflection::Ground;
-use resistance::{Resistance, resistance_of};
+use resistance::resistance_of;
 
 // What a row's cells take: the phases of the leg, twice over, and of the height; cosine and sine of
 // the first and of their sum; the radiation resistance. Beside these the efficiency in dB.
@@ -23,12 +24,6 @@ pub struct InvertedL {
     pub eff8: f32,
 }
 
-#[derive(Clone, Copy)]
-pub enum InvertedLRow {
-    Settled(InvertedL, Turns),
-    Unsettled,
-}
-
 // Minus infinity at height 0.
 fn eff8_of(hwave: f32) -> f32
     ensures { result ≡ eff8_of hwave }
@@ -42,30 +37,24 @@ fn eff8_of(hwave: f32) -> f32
     }
 }
 
-pub fn inverted_l_row(fac: f32, hwave: f32) -> InvertedLRow
-    ensures { IsAnswer inverted_l_number inverted_l_values zero_inverted_l 11 (inverted_l_row fac hwave) (inverted_l_settles hwave) result }
+pub fn inverted_l_row(fac: f32, hwave: f32) -> Option<Settled<InvertedL>>
+    ensures { IsAnswer unsettled_number (settled_value zero_inverted_l) zero_inverted_l 11 (inverted_l_row fac hwave) (inverted_l_settles hwave) result }
 {
     let hac2 = hwave + hwave;
-    let Resistance::Settled(ra, turns) = resistance_of(hac2, hac2 + hac2) else {
-        return InvertedLRow::Unsettled;
-    };
-    let eff8 = eff8_of(hwave);
+    let resistance = resistance_of(hac2, hac2 + hac2)?;
     let fac2 = fac * 2.0;
     let of_leg = elementary::sin_cos(fac2);
     let of_sum = elementary::sin_cos(hwave + fac2);
-    InvertedLRow::Settled(
-        InvertedL {
-            fac2,
-            hwave,
-            cfac2: of_leg.cosine,
-            sfac2: of_leg.sine,
-            csum: of_sum.cosine,
-            ssum: of_sum.sine,
-            ra,
-            eff8,
-        },
-        turns,
-    )
+    Some(resistance.with(InvertedL {
+        fac2,
+        hwave,
+        cfac2: of_leg.cosine,
+        sfac2: of_leg.sine,
+        csum: of_sum.cosine,
+        ssum: of_sum.sine,
+        ra: resistance.value,
+        eff8: eff8_of(hwave),
+    }))
 }
 
 // The leg's part.
