@@ -1,5 +1,5 @@
 -- Document 01 section 4, curtain: bays and elements. Definitions only.
-use Rattle.std.specs.Prelude.{ℕ, cond, ltb, ℤ, pos, negsuc, Float}
+use Rattle.std.specs.Prelude.{ℕ, cond, min, ℤ, pos, negsuc, Float}
 use Rattle.std.specs.Float.{binary32}
 use Rattle.std.specs.Float.Ieee.{eq, rem}
 use Rattle.single.specs.Single.{◌⊟◌, ◌⊘◌, num}
@@ -8,7 +8,7 @@ use Rattle.curtain.specs.declared.card.CurtainCard.{CurtainCard}
 
 -- a whole number, at most `most`, and `negative` if it is below 0
 unfoldable pub count_of : ℤ → ℕ → ℕ → ℕ
-count_of (pos k) most negative = cond (ltb most k) most k
+count_of (pos k) most negative = min k most
 count_of (negsuc k) most negative = negative
 
 -- Turns of `for i in 1..=nn`, none for a negative nn = ((phi - ep) / 2.0) as i32. At most 32, which 64 bays take; more bays are refused by 5

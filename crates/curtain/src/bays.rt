@@ -2,16 +2,17 @@
 ghost use Rattle.std.specs.Prelude.{◌≡◌};
 ghost use Rattle.curtain.specs.Bays.{sx_of};
 
-// `sx` after n turns.
-pub(crate) fn bays_sum(ep: f32, nep: u8, n: u8, fac3: f32, fac4: f32) -> f32
-    ensures { result ≡ sx_of ep nep n fac3 fac4 }
+use crate::card::CurtainCard;
+
+// `sx` after the card's pairs of bays.
+pub(crate) fn bays_sum(card: CurtainCard, fac3: f32, fac4: f32) -> f32
+    ensures { result ≡ sx_of card.ep card.nep card.nn fac3 fac4 }
 {
+    let CurtainCard { ep, nep, nn, .. } = card;
     let mut sx = ep;
-    let mut i: u8 = 0;
-    while i < n {
+    for i in 0..nn {
         let k = 2 * i as u16 + 1 + nep as u16;
-        sx = sx + 2.0 * elementary::cos(k as f32 * fac3 * fac4);
-        i += 1;
+        sx += 2.0 * elementary::cos(k as f32 * fac3 * fac4);
     }
     sx
 }

@@ -4,10 +4,10 @@ ghost use Rattle.std.specs.Float.{binary32};
 ghost use Rattle.std.specs.Float.Ieee.{eq, rem};
 ghost use Rattle.single.specs.Single.{num};
 ghost use Rattle.elementary.specs.Basic.{cut_toward};
-ghost use Rattle.curtain.specs.Card.{count_of, card_from, card_of};
+ghost use Rattle.curtain.specs.Card.{count_of, card_of};
 
 // `nn` pairs of bays and, if the bays are odd, `ep` = 1 and `nep` = 1 for the one in the middle; `m`
-// elements.
+// elements. `ep` is no method of `nep`: a card made by hand may hold any two.
 #[derive(Clone, Copy)]
 pub struct CurtainCard {
     pub ep: f32,
@@ -20,22 +20,10 @@ pub struct CurtainCard {
 fn count_of(x: f32, most: u8, negative: u8) -> u8
     ensures { result ≡ count_of (cut_toward x) most negative }
 {
-    let n = elementary::cut(x);
-    if n >= 0 {
-        let k = n as u32;
-        if k > most as u32 { most } else { k as u8 }
-    } else {
-        negative
+    match u32::try_from(elementary::cut(x)) {
+        Ok(k) => k.min(u32::from(most)) as u8,
+        Err(_) => negative,
     }
-}
-
-// 64 bays make 32 pairs, and more bays are refused before: the limit is for those who ask here.
-fn card_from(phi: f32, ep: f32, nep: u8, elements: f32) -> CurtainCard
-    ensures { result ≡ card_from phi ep nep elements }
-{
-    let nn = count_of((phi - ep) / 2.0, 32, 0);
-    let m = count_of(elements, 10, 10);
-    CurtainCard { ep, nep, nn, m }
 }
 
 // An even whole number, zero among them. From 2 ^ 24 on every finite f32 is one.
@@ -50,13 +38,16 @@ fn is_even(phi: f32) -> bool
     }
 }
 
-// Any number of bays that is not an even whole number counts as odd.
+// Any number of bays that is not an even whole number counts as odd. 64 bays make 32 pairs, and more
+// bays are refused before: the limit is for those who ask here.
 pub fn curtain_card(phi: f32, elements: f32) -> CurtainCard
     ensures { result ≡ card_of phi elements }
 {
-    if is_even(phi) {
-        card_from(phi, 0.0, 0, elements)
-    } else {
-        card_from(phi, 1.0, 1, elements)
+    let (ep, nep) = if is_even(phi) { (0.0, 0) } else { (1.0, 1) };
+    CurtainCard {
+        ep,
+        nep,
+        nn: count_of((phi - ep) / 2.0, 32, 0),
+        m: count_of(elements, 10, 10),
     }
 }

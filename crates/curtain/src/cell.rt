@@ -12,6 +12,7 @@ use reflection::Soil;
 
 // An elevation `delta` with its sine and cosine; the threshold is the model's. No reflection is
 // computed near the vertical.
+#[tactic(auto, unfolding(crate::specs::Cell::cell_of))]
 pub fn curtain_cell(
     card: CurtainCard,
     row: CurtainRow,

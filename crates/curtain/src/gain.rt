@@ -15,8 +15,7 @@ pub fn curtain_rain(gain: CurtainGain) -> f32
     ensures { result ≡ rain_of gain }
 {
     match gain {
-        CurtainGain::Floor => finish::FLOOR,
-        CurtainGain::Weak => finish::FLOOR,
+        CurtainGain::Floor | CurtainGain::Weak => finish::FLOOR,
         CurtainGain::Decibels(v) => v,
     }
 }
@@ -27,7 +26,6 @@ pub fn curtain_sok(gain: CurtainGain, slot: f32) -> f32
 {
     match gain {
         CurtainGain::Floor => slot,
-        CurtainGain::Weak => 0.0,
-        CurtainGain::Decibels(_) => 0.0,
+        CurtainGain::Weak | CurtainGain::Decibels(_) => 0.0,
     }
 }

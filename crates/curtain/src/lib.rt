@@ -3,6 +3,7 @@
 mod bays;
 mod card;
 mod cell;
+mod element_count;
 mod elements;
 mod floor;
 mod gain;

@@ -4,13 +4,15 @@ ghost use Rattle.curtain.specs.Pattern.{fac6_of, value_of, gain_of};
 
 use crate::bays::bays_sum;
 use crate::card::CurtainCard;
-use crate::elements::{EhEv, at_most_ten, element_waves, fields};
+use crate::element_count::at_most_ten;
+use crate::elements::{EhEv, element_waves, fields};
 use crate::gain::CurtainGain;
 use crate::row::CurtainRow;
 use angles::{Azimuth, Elevation};
 use reflection::Ground;
 
-// What both polarizations have in common.
+// What both polarizations have in common. card, row and azimuth come apart here and below: a struct of
+// them would be made anew at each cell.
 fn fac6(card: CurtainCard, row: CurtainRow, azimuth: Azimuth, t: f32) -> f32
     ensures { result ≡ fac6_of card row azimuth t }
 {
@@ -18,10 +20,11 @@ fn fac6(card: CurtainCard, row: CurtainRow, azimuth: Azimuth, t: f32) -> f32
     let denom = 1.0 - sb * sb * t * t;
     let sel = elementary::cos(row.facsb * t) - row.cfac;
     let sz = elementary::sin(row.facdx * t);
-    let sx = bays_sum(card.ep, card.nep, card.nn, row.fac3, t * sb);
+    let sx = bays_sum(card, row.fac3, t * sb);
     sel * sx * sz / denom
 }
 
+#[tactic(auto, unfolding(crate::specs::Pattern::value_of))]
 fn value(
     card: CurtainCard,
     row: CurtainRow,
@@ -33,9 +36,15 @@ fn value(
 {
     let q = elevation.q;
     let fac6 = fac6(card, row, azimuth, elevation.t);
-    let m = at_most_ten(card.m);
-    let waves = element_waves(m, q, row.h1, row.dz);
-    let EhEv { eh, ev } = fields(fac6 * azimuth.cb, fac6 * (azimuth.sb * q), m, waves, earth);
+    let count = at_most_ten(card.m);
+    let waves = element_waves(count, q, row.h1, row.dz);
+    let EhEv { eh, ev } = fields(
+        fac6 * azimuth.cb,
+        fac6 * (azimuth.sb * q),
+        count,
+        waves,
+        earth,
+    );
     root::sqrt(eh * eh + ev * ev)
 }
 

@@ -1,11 +1,11 @@
 use lib.Ieee.{round, of_bits}
-use Rattle.curtain.specs.Card.{card_of}
+use Rattle.curtain.specs.Card.{card_of, card_from}
 use Rattle.curtain.proofs.card.curtain_card.Goals as goal
+use Rattle.curtain.proofs.card.curtain_card.Goals.{then-is_even, else-is_even}
 
-pub returns-then-is_even : goal.returns-then-is_even
-unfolding card_of round of_bits
-returns-then-is_even c = rw (← c.is_even.ensures, c.if-is_even.true, ← c.card_from.ensures)
-
-pub returns-else-is_even : goal.returns-else-is_even
-unfolding card_of round of_bits
-returns-else-is_even c = rw (← c.is_even.ensures, c.if-is_even.false, ← c.card_from-else-is_even.ensures)
+pub returns : goal.returns
+unfolding card_of card_from round of_bits
+returns c = elim c.if-is_even.branch [
+  | then-is_even w ↦ rw (← c.is_even.ensures, w.if-is_even.true, c.count_of.ensures, c.count_of-2.ensures, w.ep-is)
+  | else-is_even w ↦ rw (← c.is_even.ensures, w.if-is_even.false, c.count_of.ensures, c.count_of-2.ensures, w.ep-is)
+]

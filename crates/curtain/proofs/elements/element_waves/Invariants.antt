@@ -1,10 +1,6 @@
 use mathlib.Core.Path.{◌≡◌}
-use Prim.Native.Nat.{◌-◌, ◌≤◌}
 use Rattle.curtain.specs.Elements.{waves_of}
 use Rattle.curtain.proofs.elements.element_waves.Given as goal
 
 abbrev pub invariant-loop-j : goal.invariant-loop-j
-invariant-loop-j l = (l.j ≤ l.m) × (l.waves ≡ waves_of l.j l.q l.h1 l.dz)
-
-abbrev pub decreases-loop-j : goal.decreases-loop-j
-decreases-loop-j l = l.m - l.j
+invariant-loop-j l = l.waves ≡ waves_of l.j l.q l.h1 l.dz
