@@ -11,17 +11,16 @@ use borrow.Author.Count.{below_more}
 use lib.ListN.{length, take, drop, set, get_or, length-set}
 use lib.Seq.{get_or-set_same, get_or-set_other}
 use lib.Ieee.{Float, nan}
-use Rattle.field_reading.specs.declared.reading.Decimal.{Decimal}
-use Rattle.field_reading.specs.declared.reading.Decimal.TheVariants.{Value, Malformed}
+use Rattle.std.proofs.Common.{Option, Some, None}
 use Rattle.field_reading.specs.Decimal.{decimal_of, decimal_value}
 use Rattle.card_line.specs.Line.{columns, decimal_at, decimals_read}
-use Rattle.card_line.specs.TenFields.{DecimalsDone}
+use Rattle.card_line.specs.TenFields.{Values}
 
 -- field k as the code cuts it out
 abbrev pub cut : List ℕ → ℕ → List ℕ
 cut l k = take (9 + 11 * k + 11 - (9 + 11 * k)) (drop (9 + 11 * k) l)
 
-cut_is : (l : List ℕ) (k : ℕ) (d x : Decimal) → d ≡ decimal_of (cut l k) → d ≡ x → decimal_at l k ≡ x
+cut_is : (l : List ℕ) (k : ℕ) (d x : Option Float) → d ≡ decimal_of (cut l k) → d ≡ x → decimal_at l k ≡ x
 cut_is l k d x e f = ap (λ (n : ℕ). decimal_of (columns (9 + 11 * k) n l)) (let z : 11 ≡ 9 + 11 * k + 11 - (9 + 11 * k) = omega arith in z) ∙ sym e ∙ f
 
 -- the first k are read
@@ -35,10 +34,10 @@ pub reading_start : (l : List ℕ) (v : List Float) → length v ≡ 10 → Read
 unfolding decimals_read
 reading_start l v e = record { low = omega arith; long = e; all = refl; each = λ j h. absurd (not-suc-le-zero h) }
 
-pub reading_step : (l : List ℕ) (v : List Float) (k : ℕ) (d : Decimal) (x : Float) → Reading l v k → k < 10 → d ≡ decimal_of (cut l k) → d ≡ Value x → Reading l (set v k x) (k + 1)
+pub reading_step : (l : List ℕ) (v : List Float) (k : ℕ) (d : Option Float) (x : Float) → Reading l v k → k < 10 → d ≡ decimal_of (cut l k) → d ≡ Some x → Reading l (set v k x) (k + 1)
 unfolding decimals_read
 reading_step l v k d x i h e f =
-    let g : decimal_at l k ≡ Value x = cut_is l k d (Value x) e f in
+    let g : decimal_at l k ≡ Some x = cut_is l k d (Some x) e f in
     record {
       low = omega arith;
       long = length-set v k x ∙ i.long;
@@ -60,14 +59,14 @@ stays_false l j (suc n) h b =
       | inr g ↦ rw (stays_false l j n (le_of_suc-le-suc g) b) refl
     ]
 
-pub reading_fails : (l : List ℕ) (v w : List Float) (k : ℕ) (d : Decimal) → Reading l v k → k < 10 → d ≡ decimal_of (cut l k) → d ≡ Malformed → DecimalsDone l false w
+pub reading_fails : (l : List ℕ) (v : List Float) (k : ℕ) (d : Option Float) → Reading l v k → k < 10 → d ≡ decimal_of (cut l k) → d ≡ None → decimals_read l 10 ≡ false
 unfolding decimals_read
-reading_fails l v w k d i h e f =
-    let b : decimals_read l (suc k) ≡ false = rw (i.all, cut_is l k d Malformed e f) refl in
-    record { all = sym (stays_false l (suc k) 10 h b); each = λ t. absurd (true≢false (sym t)) }
+reading_fails l v k d i h e f =
+    let b : decimals_read l (suc k) ≡ false = rw (i.all, cut_is l k d None e f) refl in
+    stays_false l (suc k) 10 h b
 
-pub reading_ends : (l : List ℕ) (v : List Float) (k : ℕ) → Reading l v k → 10 ≤ k → DecimalsDone l true v
+pub reading_ends : (l : List ℕ) (v : List Float) (k : ℕ) → Reading l v k → 10 ≤ k → Values l v
 reading_ends l v k i h =
     let e : k ≡ 10 = omega (arith, i.low) in
     let at10 : Reading l v 10 = subst (Reading l v) e i in
-    record { all = sym at10.all; each = λ t. at10.each }
+    record { all = at10.all; each = at10.each }

@@ -1,24 +1,21 @@
 -- Document 01 section 10, a line of `gainlist`: "119 bytes a line: type, first, last MHz in 3 columns each; then ten fields of 11: off-azimuth and slots 3, 4, 6 to 12, the rest 0". Definitions only.
-use Rattle.std.specs.Prelude.{ℕ, zero, suc, ◌+◌, ◌*◌, Bool, true, false, cond, ◌&&◌, List, [], ◌∷◌, eqb, ℤ, pos, length, take, drop, Float}
+use Rattle.std.specs.Prelude.{ℕ, zero, suc, ◌+◌, ◌*◌, Bool, true, false, cond, ◌&&◌, List, [], ◌∷◌, eqb, ℤ, pos, length, take, drop, Float, Option, Some, None}
 use Rattle.single.specs.Single.{num}
 use Rattle.parameters.specs.declared.model.Model.TheVariants.{Compatible}
-use Rattle.field_reading.specs.declared.reading.Integer.{Integer}
-use Rattle.field_reading.specs.declared.reading.Decimal.{Decimal}
 use Rattle.field_reading.specs.Integer.{integer_of, integer_number, integer_value}
 use Rattle.field_reading.specs.Decimal.{decimal_of, decimal_number, decimal_value}
 use Rattle.cards.specs.declared.fields.Fields.{Fields}
-use Rattle.card_line.specs.declared.line.Line.{Line}
 
 -- n columns from column a on, counted from 0
 abbrev pub columns : ℕ → ℕ → List ℕ → List ℕ
 columns a n l = take n (drop a l)
 
 -- 3 columns from column a on
-abbrev pub integer_at : List ℕ → ℕ → Integer
+abbrev pub integer_at : List ℕ → ℕ → Option ℤ
 integer_at l a = integer_of (columns a 3 l)
 
 -- field k of the ten fields of 11, counted from 0
-abbrev pub decimal_at : List ℕ → ℕ → Decimal
+abbrev pub decimal_at : List ℕ → ℕ → Option Float
 decimal_at l k = decimal_of (columns (9 + 11 * k) 11 l)
 
 -- type, first and last MHz are numbers
@@ -57,17 +54,10 @@ fields_of kop first last value =
 unfoldable pub is_well_formed : List ℕ → Bool
 is_well_formed l = eqb (length l) 119 && (integers_read l && decimals_read l 10)
 
--- the fields of no card: zeros
-unfoldable pub malformed_line : Line
-malformed_line = record { well_formed = false; fields = fields_of (pos 0) (pos 0) (pos 0) (λ k. num 0 1) }
+-- the fields that a line's thirteen numbers are
+unfoldable pub fields_in : List ℕ → Fields
+fields_in l = fields_of (integer_value (integer_at l 0)) (integer_value (integer_at l 3)) (integer_value (integer_at l 6)) (λ k. decimal_value (decimal_at l k))
 
-unfoldable pub well_formed_line : List ℕ → Line
-well_formed_line l =
-    record {
-      well_formed = true;
-      fields = fields_of (integer_value (integer_at l 0)) (integer_value (integer_at l 3)) (integer_value (integer_at l 6)) (λ k. decimal_value (decimal_at l k));
-    }
-
--- the line's bytes are without its line feed
-unfoldable pub line_of : List ℕ → Line
-line_of l = cond (is_well_formed l) (well_formed_line l) malformed_line
+-- the line's bytes are without its line feed. A malformed one has no fields
+unfoldable pub line_of : List ℕ → Option Fields
+line_of l = cond (is_well_formed l) (Some (fields_in l)) None

@@ -1,4 +1,5 @@
+#![tactic(auto)]
 // A card's line: document 01 section 10.
 mod line;
 
-pub use line::{Line, read_line};
+pub use line::read_line;
