@@ -1,6 +1,5 @@
 -- Worked examples, computed: the first card of document 01's listing, and lines where another rule shows.
 use mathlib.Core.Path.{◌≡◌, refl}
-use mathlib.Core.Bool.{true}
 use mathlib.Core.List.{List, [], ◌∷◌, ◌++◌}
 use Prim.Native.Nat.{ℕ, ◌+◌}
 use lib.IntN.{ℤ, pos, negsuc}
@@ -51,15 +50,15 @@ minus_signs = refl
 -- `  1  3 30`, then `     0.0000` to `     9.0000`
 pub in_order : line_of ((32 ∷ 32 ∷ 49 ∷ 32 ∷ 32 ∷ 51 ∷ 32 ∷ 51 ∷ 48 ∷ []) ++ ones 0 ++ ones 1 ++ ones 2 ++ ones 3 ++ ones 4 ++ ones 5 ++ ones 6 ++ ones 7 ++ ones 8 ++ ones 9)
     ≡ Some (
-        let o = num 0 1 in
-        record {
-          kop = pos 1;
-          first = pos 3;
-          last = pos 30;
-          toaz = o;
-          slots = o ∷ o ∷ num 1 1 ∷ num 2 1 ∷ o ∷ num 3 1 ∷ num 4 1 ∷ num 5 1 ∷ num 6 1 ∷ num 7 1 ∷ num 8 1 ∷ num 9 1 ∷ o ∷ o ∷ o ∷ o ∷ o ∷ o ∷ o ∷ o ∷ [];
-          model = Compatible;
-        })
+    let o = num 0 1 in
+    record {
+      kop = pos 1;
+      first = pos 3;
+      last = pos 30;
+      toaz = o;
+      slots = o ∷ o ∷ num 1 1 ∷ num 2 1 ∷ o ∷ num 3 1 ∷ num 4 1 ∷ num 5 1 ∷ num 6 1 ∷ num 7 1 ∷ num 8 1 ∷ num 9 1 ∷ o ∷ o ∷ o ∷ o ∷ o ∷ o ∷ o ∷ o ∷ [];
+      model = Compatible;
+    })
 unfolding line_of is_well_formed integers_read decimals_read fields_in fields_of integer_of integer decimal_of pointed ten_thousandths signed_of unspaced digits_of read_on round neg
 in_order = refl
 
