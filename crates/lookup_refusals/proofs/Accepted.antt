@@ -1,10 +1,10 @@
 -- What a lookup that is not refused knows. Assumes nothing.
-use Prim.Native.Nat.{ℕ, suc}
-use mathlib.Core.Path.{◌≡◌, refl}
+use Prim.Native.Nat.{ℕ, suc, ◌<◌}
+use mathlib.Core.Path.{◌≡◌, refl, ◌∙◌}
 use mathlib.Core.Bool.{Bool, true, false, not, cond, ◌&&◌, ◌||◌}
 use mathlib.Core.List.{List, [], ◌∷◌}
 use native.Mathlib.Omega.{arith}
-use borrow.Author.Tests.{eqb-true}
+use borrow.Author.Tests.{eqb-true, ne_eqb}
 use lib.Dec.{eqb}
 use lib.IntN.{ℤ}
 use lib.ListN.{length}
@@ -49,6 +49,14 @@ pub card_refusal_lem : (first last : ℤ) (verdict : ℕ) (t : List Float) (fmc 
     ≡ cond (eqb (lookup_refusal t fmc delta) 0) (cond (eqb verdict 0 && not (is_range first last)) 4 0) (lookup_refusal t fmc delta)
 unfolding lookup_refusal card_refusal first_refusal
 card_refusal_lem first last verdict t fmc delta = card_from_lem (is_table t) (any_outside (fmc ∷ delta ∷ [])) (eqb verdict 0 && not (is_range first last))
+
+pub card_refused : (first last : ℤ) (verdict : ℕ) (t : List Float) (fmc delta : Float) {n : ℕ} → lookup_refusal t fmc delta ≡ n → 0 < n
+    → card_refusal first last verdict t fmc delta ≡ n
+card_refused first last verdict t fmc delta {n} e h = card_refusal_lem first last verdict t fmc delta ∙ rw (e, ne_eqb n 0 (omega arith))
+
+pub card_by_range : (first last : ℤ) (verdict : ℕ) (t : List Float) (fmc delta : Float) → lookup_refusal t fmc delta ≡ 0
+    → card_refusal first last verdict t fmc delta ≡ cond (eqb verdict 0 && not (is_range first last)) 4 0
+card_by_range first last verdict t fmc delta e = card_refusal_lem first last verdict t fmc delta ∙ rw e
 
 before : (n m : ℕ) → cond (eqb n 0) m n ≡ 0 → n ≡ 0
 before n m e = go (eqb n 0) (eqb-true n 0) e

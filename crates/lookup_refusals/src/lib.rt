@@ -1,33 +1,45 @@
+#![tactic(auto)]
 // What is refused of a lookup: document 01 section 9.
 ghost use Rattle.std.specs.Prelude.{◌≡◌};
-ghost use Rattle.lookup_refusals.specs.LookupRefusals.{lookup_refusal, card_refusal};
+ghost use Rattle.refusals.specs.Refusals.{IsJudged};
+ghost use Rattle.lookup_refusals.specs.LookupRefusals.{refusal_by_length, lookup_refusal, card_refusal};
 
-// 7, then 2 of the MHz and the elevation looked up.
-pub fn lookup_refusal(table: &[f32], fmc: f32, delta: f32) -> u32
-    ensures { result ≡ lookup_refusal table.now fmc delta }
+use refusals::Refusal;
+
+// 7, then 2 of the MHz and the elevation looked up. The length is judged by the caller, who has the
+// table as numbers or as bytes.
+pub fn refusal_by_length(is_table: bool, fmc: f32, delta: f32) -> Result<(), Refusal>
+    ensures { IsJudged (refusal_by_length is_table fmc delta) result }
 {
-    if !table::is_table(table) {
-        return 7;
+    if !is_table {
+        return Err(Refusal::Length);
     }
-    let numbers = [fmc, delta];
-    if limits::any_outside(&numbers) {
-        return 2;
+    if limits::any_outside(&[fmc, delta]) {
+        return Err(Refusal::Number);
     }
-    0
+    Ok(())
+}
+
+pub fn lookup_refusal(table: &[f32], fmc: f32, delta: f32) -> Result<(), Refusal>
+    ensures { IsJudged (lookup_refusal table.now fmc delta) result }
+{
+    refusal_by_length(table::is_table(table), fmc, delta)
 }
 
 // A refused card's first and last MHz are not looked at.
-pub fn card_refusal(first: i32, last: i32, verdict: u32, table: &[f32], fmc: f32, delta: f32) -> u32
-    ensures { result ≡ card_refusal first last verdict table.now fmc delta }
+pub fn card_refusal(
+    first: i32,
+    last: i32,
+    verdict: u32,
+    table: &[f32],
+    fmc: f32,
+    delta: f32,
+) -> Result<(), Refusal>
+    ensures { IsJudged (card_refusal first last verdict table.now fmc delta) result }
 {
-    let refusal = lookup_refusal(table, fmc, delta);
-    if refusal != 0 {
-        return refusal;
+    lookup_refusal(table, fmc, delta)?;
+    if verdict == 0 && !table::is_range(first, last) {
+        return Err(Refusal::Mhz);
     }
-    if verdict == 0 {
-        if !table::is_range(first, last) {
-            return 4;
-        }
-    }
-    0
+    Ok(())
 }
