@@ -10,7 +10,7 @@ use lib.Ieee.{Float}
 use borrow.Author.Tests.{ltb-true, ltb-false}
 use Rattle.table.specs.Table.{row_count, column_count}
 use Rattle.antenna.specs.Places.{clamped, next_of, place_of}
-use Rattle.antenna.specs.Rows.{InTable}
+use Rattle.antenna.specs.InTable.{InTable}
 
 pub clamped_within : (z : ℤ) (most : ℕ) → 1 ≤ most → (1 ≤ clamped z most) × (clamped z most ≤ most)
 unfolding clamped

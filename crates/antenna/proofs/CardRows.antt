@@ -10,7 +10,7 @@ use mir.Syntax.{w64}
 use mir.Val.{Fits}
 use Rattle.table.proofs.Range.{Range}
 use Rattle.antenna.specs.Places.{place_of}
-use Rattle.antenna.specs.Rows.{InTable}
+use Rattle.antenna.specs.InTable.{InTable}
 use Rattle.antenna.proofs.Bounds.{low_in}
 
 -- an end of the range as the machine casts it

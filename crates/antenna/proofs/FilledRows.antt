@@ -18,11 +18,13 @@ use Rattle.table.proofs.Range.{Range, range_of_lem, filled_between}
 use Rattle.lookup_refusals.specs.LookupRefusals.{lookup_refusal, card_refusal}
 use Rattle.lookup_refusals.proofs.Accepted.{accepted, card_accepted, card-range, card_refusal_lem}
 use Rattle.antenna.specs.Places.{place_of}
-use Rattle.antenna.specs.Rows.{InTable, row_of}
+use Rattle.antenna.specs.Rows.{row_of}
+use Rattle.antenna.specs.InTable.{InTable}
 use Rattle.antenna.specs.FilledRows.{SameFilled, alone_at, from_filled_rows}
 use Rattle.antenna.specs.Lookups.{gain_lookup_number, gain_lookup_values, gain_lookup_of}
-use Rattle.antenna.specs.Lookups.{answered, zeros, card_values, card_lookup_number, card_lookup_values, card_lookup_of}
-use Rattle.antenna.specs.declared.lookups.Lookup.TheVariants.{Accepted}
+use Rattle.antenna.specs.Lookups.{zeros, card_values, card_lookup_number, card_lookup_values, card_lookup_of}
+use Rattle.refusals.specs.Refusals.{answered}
+use Rattle.std.specs.declared.result.Result.TheVariants.{Ok}
 use Rattle.antenna.specs.declared.places.Place.{Place}
 use Rattle.antenna.proofs.Between.{cut_between, not_below_first}
 use Rattle.antenna.proofs.Bounds.{low_in, high_in}
@@ -74,13 +76,13 @@ module _ (first last : ℤ) (t : List Float) (fmc delta : Float) (r : is_range f
 
   -- 'Below the first MHz it takes the first row alone'
   pub first_row_alone : lookup_refusal t fmc delta ≡ 0 → lt fmc (whole (nat_abs first)) ≡ true
-      → card_lookup_of first last 0 t fmc delta ≡ Accepted (alone_at (place_of fmc delta) t (nat_abs first))
+      → card_lookup_of first last 0 t fmc delta ≡ Ok (alone_at (place_of fmc delta) t (nat_abs first))
   unfolding card_lookup_of from_filled_rows
   first_row_alone z low = rw (card_number, z, low) refl
 
   -- 'from the last MHz up the last row alone'
   pub last_row_alone : lookup_refusal t fmc delta ≡ 0 → le (whole (nat_abs last)) fmc ≡ true
-      → card_lookup_of first last 0 t fmc delta ≡ Accepted (alone_at (place_of fmc delta) t (nat_abs last))
+      → card_lookup_of first last 0 t fmc delta ≡ Ok (alone_at (place_of fmc delta) t (nat_abs last))
   unfolding card_lookup_of from_filled_rows
   last_row_alone z high =
       let g = range_of_lem first last r in
@@ -90,7 +92,7 @@ module _ (first last : ℤ) (t : List Float) (fmc delta : Float) (r : is_range f
 
 -- 'A refused card, having none, still gives zeros'
 pub refused_card_zeros : (first last : ℤ) (verdict : ℕ) (t : List Float) (fmc delta : Float) → lookup_refusal t fmc delta ≡ 0 → verdict ≢ 0
-    → card_lookup_of first last verdict t fmc delta ≡ Accepted zeros
+    → card_lookup_of first last verdict t fmc delta ≡ Ok zeros
 unfolding card_lookup_of
 refused_card_zeros first last verdict t fmc delta z v = rw (card_refusal_lem first last verdict t fmc delta, z, ne_eqb verdict 0 v) refl
 

@@ -1,4 +1,6 @@
 pub mod Bounds
+pub mod Clamps
+pub mod Wholes
 pub mod Cuts
 pub mod CardRows
 pub mod Between

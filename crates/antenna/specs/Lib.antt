@@ -1,4 +1,5 @@
 pub mod Places
+pub mod InTable
 pub mod Rows
 pub mod FilledRows
 pub mod Lookups

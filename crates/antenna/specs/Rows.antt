@@ -1,20 +1,11 @@
 -- Document 01 section 9: what a lookup takes of the table's rows, and the blend; document 02, C-11: a row alone. Definitions only.
-use Rattle.std.specs.Prelude.{ℕ, ◌-◌, ◌≤◌, List, get_or, Float}
+use Rattle.std.specs.Prelude.{ℕ, ◌-◌, List, get_or, Float}
 use Rattle.std.specs.Float.{nan}
 use Rattle.single.specs.Single.{◌⊞◌, ◌⊟◌, ◌⊠◌}
-use Rattle.table.specs.Table.{row_count, column_count, gain_at, efficiency_at}
+use Rattle.table.specs.Table.{gain_at, efficiency_at}
 use Rattle.antenna.specs.declared.places.Place.{Place}
 use Rattle.antenna.specs.declared.rows.GainEfficiency.{GainEfficiency}
 use Rattle.antenna.specs.declared.rows.Row.{Row}
-
--- row m and columns j and jp1, all from 1, are the table's
-pub record InTable (m j jp1 : ℕ) : Type 0 where
-  pub first : 1 ≤ m
-  pub last : m ≤ row_count
-  pub column : 1 ≤ j
-  pub most : j ≤ column_count
-  pub next : 1 ≤ jp1
-  pub end : jp1 ≤ column_count
 
 -- the row at m MHz: its gains at columns j and jp1, from 1, and its efficiency
 unfoldable pub row_of : List Float → ℕ → ℕ → ℕ → Row

@@ -1,31 +1,40 @@
-// `gain_lookup`, and the lookup of a card's table.
+// `gain_lookup`, of numbers or of bytes, and the lookup of a card's table.
 ghost use Rattle.std.specs.Prelude.{◌≡◌};
+ghost use Rattle.antenna.specs.ByteTables.{table_of};
 ghost use Rattle.antenna.specs.Lookups.{lookup_number, lookup_values};
 ghost use Rattle.antenna.specs.Lookups.{gain_lookup_number, gain_lookup_of, gain_lookup_values, card_lookup_number, card_lookup_of, card_lookup_values};
 
 use crate::filled_rows::from_filled_rows;
 use crate::places::locate;
-use crate::rows::{GainEfficiency, blend_at};
-use lookup_refusals::{card_refusal, lookup_refusal};
+use crate::rows::{GainEfficiency, Reading};
+use crate::tables::Table;
+use lookup_refusals::{card_refusal, refusal_by_length};
+use refusals::Refusal;
 
-#[derive(Clone, Copy)]
-pub enum Lookup {
-    Accepted(GainEfficiency),
-    Refused(u32),
+fn lookup<T: Table>(table: T, fmc: f32, delta: f32) -> Result<GainEfficiency, Refusal>
+    ensures { result ≡ gain_lookup_of (T.numbers table) fmc delta }
+{
+    refusal_by_length(table.is_table(), fmc, delta)?;
+    let at = locate(fmc, delta);
+    let reading = Reading { table, at };
+    Ok(reading.blend())
 }
 
 // At fmc MHz and an elevation of delta radians.
-pub fn gain_lookup(table: &[f32], fmc: f32, delta: f32) -> Lookup
+pub fn gain_lookup(table: &[f32], fmc: f32, delta: f32) -> Result<GainEfficiency, Refusal>
     ensures value { result ≡ gain_lookup_of table.now fmc delta }
     ensures number { lookup_number result ≡ gain_lookup_number table.now fmc delta }
     ensures values { lookup_values result ≡ gain_lookup_values table.now fmc delta }
 {
-    let refusal = lookup_refusal(table, fmc, delta);
-    if refusal != 0 {
-        return Lookup::Refused(refusal);
-    }
-    let at = locate(fmc, delta);
-    Lookup::Accepted(blend_at(table, at))
+    lookup(table, fmc, delta)
+}
+
+pub fn gain_lookup_in_bytes(table: &[u8], fmc: f32, delta: f32) -> Result<GainEfficiency, Refusal>
+    ensures value { result ≡ gain_lookup_of (table_of table.now) fmc delta }
+    ensures number { lookup_number result ≡ gain_lookup_number (table_of table.now) fmc delta }
+    ensures values { lookup_values result ≡ gain_lookup_values (table_of table.now) fmc delta }
+{
+    lookup(table, fmc, delta)
 }
 
 // By the card's first and last MHz and its verdict: only the rows that it filled are read, outside its
@@ -37,21 +46,19 @@ pub fn card_lookup(
     table: &[f32],
     fmc: f32,
     delta: f32,
-) -> Lookup
+) -> Result<GainEfficiency, Refusal>
     ensures value { result ≡ card_lookup_of first last verdict table.now fmc delta }
     ensures number { lookup_number result ≡ card_lookup_number first last verdict table.now fmc delta }
     ensures values { lookup_values result ≡ card_lookup_values first last verdict table.now fmc delta }
 {
-    let refusal = card_refusal(first, last, verdict, table, fmc, delta);
-    if refusal != 0 {
-        return Lookup::Refused(refusal);
-    }
+    card_refusal(first, last, verdict, table, fmc, delta)?;
     if verdict != 0 {
-        return Lookup::Accepted(GainEfficiency {
+        return Ok(GainEfficiency {
             gain: 0.0,
             efficiency: 0.0,
         });
     }
     let at = locate(fmc, delta);
-    Lookup::Accepted(from_filled_rows(first as usize, last as usize, table, fmc, at))
+    let reading = Reading { table, at };
+    Ok(from_filled_rows(first as usize, last as usize, &reading, fmc))
 }

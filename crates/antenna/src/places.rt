@@ -3,7 +3,7 @@ ghost use Rattle.std.specs.Prelude.{false, ◌≡◌, ◌^◌};
 ghost use Rattle.single.proofs.Magnitude.{Mag};
 ghost use Rattle.elementary.specs.Basic.{cut_toward};
 ghost use Rattle.limits.specs.Tests.{outside};
-ghost use Rattle.antenna.specs.Places.{clamped, next_of, place_of};
+ghost use Rattle.antenna.specs.Places.{place_of};
 
 const R2D: f32 = 57.295779513;
 
@@ -24,28 +24,11 @@ fn cut(x: f32) -> i32
     ensures { result ≡ cut_toward x }
 {
     let b = f32::to_bits(x);
-    if 0x3f80_0000 <= b {
-        if b < 0x8000_0000 {
-            return ((8388608 + b % 8388608) >> (150 - b / 8388608)) as i32;
-        }
+    if 0x3f80_0000 <= b && b < 0x8000_0000 {
+        ((8388608 + b % 8388608) >> (150 - b / 8388608)) as i32
+    } else {
+        elementary::cut(x)
     }
-    elementary::cut(x)
-}
-
-fn clamp(n: i32, most: usize) -> usize
-    ensures { result ≡ clamped n most }
-{
-    if n < 1 {
-        return 1;
-    }
-    let k = n as usize;
-    if k < most { k } else { most }
-}
-
-fn next(n: usize, most: usize) -> usize
-    ensures { result ≡ next_of n most }
-{
-    if n < most { n + 1 } else { most }
 }
 
 // The indices are clamped, the fractions are not.
@@ -54,16 +37,16 @@ pub(crate) fn locate(fmc: f32, delta: f32) -> Place
     ensures { result ≡ place_of fmc delta }
 {
     let cut_fmc = cut(fmc);
-    let i = clamp(cut_fmc, table::ROWS);
+    let i = cut_fmc.clamp(1, table::ROWS as i32) as usize;
     let deltd = delta * R2D;
-    let j = clamp(cut(deltd + 1.0), table::COLUMNS);
+    let j = cut(deltd + 1.0).clamp(1, table::COLUMNS as i32) as usize;
     let degrees = (j - 1) as u16;
     Place {
         i,
-        ip1: next(i, table::ROWS),
+        ip1: (i + 1).min(table::ROWS),
         xfmc: fmc - cut_fmc as f32,
         j,
-        jp1: next(j, table::COLUMNS),
+        jp1: (j + 1).min(table::COLUMNS),
         xdelta: deltd - degrees as f32,
     }
 }

@@ -1,9 +1,11 @@
 // What a lookup takes of a row, the blend of two rows, and a row alone.
-ghost use Rattle.std.specs.Prelude.{◌≡◌, length};
-ghost use Rattle.table.specs.Table.{table_length};
-ghost use Rattle.antenna.specs.Rows.{InTable, row_of, row_alone, blended, blended_at};
+ghost use Rattle.std.specs.Prelude.{◌≡◌, ◌≤◌, length};
+ghost use Rattle.table.specs.Table.{row_count, table_length};
+ghost use Rattle.antenna.specs.InTable.{InTable};
+ghost use Rattle.antenna.specs.Rows.{row_of, row_alone, blended, blended_at};
 
 use crate::places::Place;
+use crate::tables::Table;
 
 #[derive(Clone, Copy)]
 pub struct GainEfficiency {
@@ -19,21 +21,8 @@ pub(crate) struct Row {
     pub efficiency: f32,
 }
 
-pub(crate) fn row_at(table: &[f32], m: usize, j: usize, jp1: usize) -> Row
-    requires table_len { length table.now ≡ table_length }
-    requires in_table { InTable m j jp1 }
-    ensures { result ≡ row_of table.now m j jp1 }
-{
-    let start = (m - 1) * table::COLUMNS;
-    Row {
-        gain: table[start + (j - 1)],
-        above: table[start + (jp1 - 1)],
-        efficiency: table[table::GAINS + (m - 1)],
-    }
-}
-
 // xfmc of the way from the low row to the high one, xdelta from column to column.
-pub(crate) fn blend(low: Row, high: Row, xfmc: f32, xdelta: f32) -> GainEfficiency
+fn blend(low: Row, high: Row, xfmc: f32, xdelta: f32) -> GainEfficiency
     ensures { result ≡ blended low high xfmc xdelta }
 {
     let rx = low.gain + xfmc * (high.gain - low.gain);
@@ -44,23 +33,56 @@ pub(crate) fn blend(low: Row, high: Row, xfmc: f32, xdelta: f32) -> GainEfficien
     }
 }
 
-// The blend of the place's two rows.
-pub(crate) fn blend_at(table: &[f32], at: Place) -> GainEfficiency
-    requires table_len { length table.now ≡ table_length }
-    requires in_table { InTable at.i at.j at.jp1 × InTable at.ip1 at.j at.jp1 }
-    ensures { result ≡ blended_at at (row_of table.now) }
-{
-    let low = row_at(table, at.i, at.j, at.jp1);
-    let high = row_at(table, at.ip1, at.j, at.jp1);
-    blend(low, high, at.xfmc, at.xdelta)
-}
-
 // Between its columns, with nothing done in MHz.
-pub(crate) fn row_alone(row: Row, xdelta: f32) -> GainEfficiency
+fn row_alone(row: Row, xdelta: f32) -> GainEfficiency
     ensures { result ≡ row_alone row xdelta }
 {
     GainEfficiency {
         gain: row.gain + xdelta * (row.above - row.gain),
         efficiency: row.efficiency,
+    }
+}
+
+// A place in a table of the right length.
+#[derive(Drop)]
+pub(crate) struct Reading<T: Table> {
+    pub table: T,
+    pub at: Place,
+    ghost table_len: { length (T.numbers table) ≡ table_length },
+    ghost low_in: { InTable at.i at.j at.jp1 },
+    ghost high_in: { InTable at.ip1 at.j at.jp1 },
+}
+
+impl<T: Table> Reading<T> {
+    fn row(&self, m: usize) -> Row
+        requires { (1 ≤ m) × (m ≤ row_count) }
+        ensures { result ≡ row_of (T.numbers self.now.table) m self.now.at.j self.now.at.jp1 }
+    {
+        let start = (m - 1) * table::COLUMNS;
+        let gain = self.table.number(start + (self.at.j - 1));
+        let above = self.table.number(start + (self.at.jp1 - 1));
+        let efficiency = self.table.number(table::GAINS + (m - 1));
+        Row {
+            gain,
+            above,
+            efficiency,
+        }
+    }
+
+    // The row at m MHz, at the place's columns.
+    pub(crate) fn alone(&self, m: usize) -> GainEfficiency
+        requires { (1 ≤ m) × (m ≤ row_count) }
+        ensures { result ≡ row_alone (row_of (T.numbers self.now.table) m self.now.at.j self.now.at.jp1) self.now.at.xdelta }
+    {
+        row_alone(self.row(m), self.at.xdelta)
+    }
+
+    // The blend of the place's two rows.
+    pub(crate) fn blend(&self) -> GainEfficiency
+        ensures { result ≡ blended_at self.now.at (row_of (T.numbers self.now.table)) }
+    {
+        let low = self.row(self.at.i);
+        let high = self.row(self.at.ip1);
+        blend(low, high, self.at.xfmc, self.at.xdelta)
     }
 }

@@ -9,12 +9,15 @@ use lib.Dec.{eqb}
 use lib.IntN.{ℤ}
 use lib.ListN.{length}
 use lib.Ieee.{Float}
+use Rattle.std.specs.declared.result.Result.{Result}
+use Rattle.refusals.specs.declared.Refusal.{Refusal}
+use Rattle.refusals.specs.Refusals.{IsJudged}
 use Rattle.single.proofs.Booleans.{or_left, or_right}
 use Rattle.limits.specs.Refusals.{first_refusal}
 use Rattle.limits.specs.Tests.{outside, any_outside}
 use Rattle.table.specs.Range.{is_range}
 use Rattle.table.specs.Table.{table_length, is_table}
-use Rattle.lookup_refusals.specs.LookupRefusals.{lookup_refusal, card_refusal}
+use Rattle.lookup_refusals.specs.LookupRefusals.{refusal_by_length, lookup_refusal, card_refusal}
 
 never : (n : ℕ) → suc n ≡ 0 → ⊥
 never n e = omega arith
@@ -37,6 +40,12 @@ accepted t fmc delta e =
     let frequency = or_left (outside fmc) (outside delta || false) q in
     let elevation = or_left (outside delta) false (or_right (outside fmc) (outside delta || false) q) in
     (eqb-true (length t) table_length p.0, frequency, elevation)
+
+-- by whether the table's length is right
+pub judged_by_length : (t : List Float) (fmc delta : Float) {l : Bool} {r : Result Unit Refusal} → l ≡ is_table t → IsJudged (refusal_by_length l fmc delta) r
+    → IsJudged (lookup_refusal t fmc delta) r
+unfolding lookup_refusal refusal_by_length
+judged_by_length t fmc delta e j = rw e at j
 
 card_from_lem : (a b c : Bool) → ◌≡◌ {A = ℕ} (cond (not a) 7 (cond b 2 (cond c 4 0))) (cond (eqb (plain a b) 0) (cond c 4 0) (plain a b))
 card_from_lem true true c = refl

@@ -1,6 +1,5 @@
-use Rattle.lookup_refusals.specs.LookupRefusals.{refusal_by_length, lookup_refusal}
+use Rattle.lookup_refusals.proofs.Accepted.{judged_by_length}
 use Rattle.lookup_refusals.proofs.lookup_refusal.Goals as goal
 
 pub returns : goal.returns
-unfolding lookup_refusal refusal_by_length
-returns c = rw c.is_table.ensures at c.refusal_by_length.ensures
+returns c = judged_by_length _ _ _ c.is_table.ensures c.refusal_by_length.ensures

@@ -1,74 +1,91 @@
-use mathlib.Core.Path.{◌≡◌, sym, ◌∙◌}
+use mathlib.Core.Path.{◌≡◌, sym, ap, ◌∙◌}
 use native.Mathlib.Omega.{arith}
-use lib.Ieee.{round, of_bits}
+use lib.Ieee.{Float, round, of_bits}
+use lib.IntN.{ℤ}
+use mathlib.Core.List.{List}
+use Prim.Native.Nat.{ℕ}
 use mir.Syntax.{w32}
-use mir.Val.{to_z, of_z}
+use mir.Val.{SFits, to_z, of_z}
 use mir.ValLaws.{to_z-of_z}
 use borrow.Author.Tests.{eq-eqb, ne_eqb}
-use Rattle.antenna.specs.Lookups.{lookup_number, lookup_values, card_lookup_number, card_lookup_of, card_lookup_values}
+use Rattle.std.specs.declared.result.Result.{Result}
+use Rattle.std.specs.declared.result.Result.TheVariants.{Ok}
+use Rattle.std.proofs.lemmas.Result.{err_from_is_err_and}
+use Rattle.refusals.specs.declared.Refusal.{Refusal}
+use Rattle.refusals.specs.Refusals.{IsJudged}
+use Rattle.refusals.proofs.Refusals as R
 use Rattle.table.proofs.Range.{Range, range_of_lem}
+use Rattle.lookup_refusals.specs.LookupRefusals.{card_refusal}
 use Rattle.lookup_refusals.proofs.Accepted.{card_accepted, card-range}
+use Rattle.antenna.specs.Lookups.{lookup_values, card_lookup_of}
 use Rattle.antenna.proofs.Bounds.{low_in, high_in}
-use Rattle.antenna.proofs.CardRows.{end_fits, ends_in}
-use borrow.Author.Rules.{rules}
+use Rattle.antenna.proofs.CardRows.{end_fits}
+use Rattle.antenna.proofs.Wholes.{card_answer_values}
 use Rattle.antenna.proofs.lookups.card_lookup.Goals as goal
 
-pub returns-then-refusal-ne0 : goal.returns-then-refusal-ne0
-unfolding lookup_number lookup_values card_lookup_of card_lookup_values
-returns-then-refusal-ne0 c = let e = (let z : let a = c.args in c.card_refusal-refusal.result ≡ card_lookup_number a.first a.last a.verdict a.table.now a.fmc a.delta = let r = (let z : (to_z w32 (of_z w32 c.args.first) ≡ c.args.first) × (to_z w32 (of_z w32 c.args.last) ≡ c.args.last) = (to_z-of_z w32 _ (search rules), to_z-of_z w32 _ (search rules)) in z) in rw (r.0, r.1) at c.card_refusal-refusal.ensures in z) in record {
-  value = rw (← e, ne_eqb _ 0 c.if-refusal-ne0.true);
-  number = e;
-  values = rw (← e, ne_eqb _ 0 c.if-refusal-ne0.true);
-}
+module _ (first last : ℤ) (verdict : ℕ) (t : List Float) (fmc delta : Float) {r : Result Unit Refusal} where
+  -- the ends of the range as the machine reads them back
+  back : SFits w32 first → SFits w32 last → IsJudged (card_refusal (to_z w32 (of_z w32 first)) (to_z w32 (of_z w32 last)) verdict t fmc delta) r
+      → IsJudged (card_refusal first last verdict t fmc delta) r
+  back f l j = rw (to_z-of_z w32 first f, to_z-of_z w32 last l) at j
 
-pub returns-then-verdict-ne0 : goal.returns-then-verdict-ne0
-unfolding lookup_number lookup_values card_lookup_of card_lookup_values round of_bits
-returns-then-verdict-ne0 c =
-    let e = (let z : let a = c.args in c.card_refusal-refusal.result ≡ card_lookup_number a.first a.last a.verdict a.table.now a.fmc a.delta = let r = (let z : (to_z w32 (of_z w32 c.args.first) ≡ c.args.first) × (to_z w32 (of_z w32 c.args.last) ≡ c.args.last) = (to_z-of_z w32 _ (search rules), to_z-of_z w32 _ (search rules)) in z) in rw (r.0, r.1) at c.card_refusal-refusal.ensures in z) in
-    let z = c.if-refusal-ne0.false in
-    let v = ne_eqb _ 0 c.if-verdict-ne0.true in
-    record {
-      value = rw (← e, eq-eqb _ 0 z, v);
-      number = sym z ∙ e;
-      values = rw (← e, eq-eqb _ 0 z, v);
-    }
+  ranged : {u : Unit {0}} → IsJudged (card_refusal first last verdict t fmc delta) r → r ≡ Ok u → verdict ≡ 0 → Range first last
+  ranged j e v = range_of_lem first last (card-range first last verdict t fmc delta (R.accepted j e) (eq-eqb verdict 0 v))
+
+pub returns-in_err-card_refusal-clause-value : goal.returns-in_err-card_refusal-clause-value
+unfolding card_lookup_of
+returns-in_err-card_refusal-clause-value c =
+    let p = err_from_is_err_and c.from_residual.result c.from_residual.ensures.1 in
+    let j = back _ _ _ _ _ _ c.ranges.first c.ranges.last c.card_refusal.ensures in
+    rw (p.1, p.2) (sym (R.answered_err j _ c.in_err-card_refusal.was))
+
+pub returns-in_err-card_refusal-clause-values : goal.returns-in_err-card_refusal-clause-values
+returns-in_err-card_refusal-clause-values c = ap lookup_values (returns-in_err-card_refusal-clause-value c) ∙ card_answer_values _ _ _ _ _ _
+
+pub returns-then-verdict-ne0-clause-value : goal.returns-then-verdict-ne0-clause-value
+unfolding card_lookup_of round of_bits
+returns-then-verdict-ne0-clause-value c =
+    let j = back _ _ _ _ _ _ c.ranges.first c.ranges.last c.card_refusal.ensures in
+    rw (ne_eqb _ 0 c.if-verdict-ne0.true) (sym (R.answered_ok j _ c.in_ok-card_refusal.was))
+
+pub returns-then-verdict-ne0-clause-values : goal.returns-then-verdict-ne0-clause-values
+returns-then-verdict-ne0-clause-values c = ap lookup_values (returns-then-verdict-ne0-clause-value c) ∙ card_answer_values _ _ _ _ _ _
 
 pub locate-at-requires : goal.locate-at-requires
-locate-at-requires c = let a = card_accepted _ _ _ _ _ _ (sym c.card_refusal-refusal.ensures ∙ c.if-refusal-ne0.false) in (a.1, a.2)
+locate-at-requires c =
+    let a = card_accepted _ _ _ _ _ _ (R.accepted c.card_refusal.ensures c.in_ok-card_refusal.was) in
+    (a.1, a.2)
 
 pub overflow_cast-first : goal.overflow_cast-first
 overflow_cast-first c =
-    let r = (let z : let a = c.args in Range a.first a.last = let z = c.if-refusal-ne0.false in
-    range_of_lem _ _ (card-range _ _ _ _ _ _ (sym ((let z : let a = c.args in c.card_refusal-refusal.result ≡ card_lookup_number a.first a.last a.verdict a.table.now a.fmc a.delta = let r = (let z : (to_z w32 (of_z w32 c.args.first) ≡ c.args.first) × (to_z w32 (of_z w32 c.args.last) ≡ c.args.last) = (to_z-of_z w32 _ (search rules), to_z-of_z w32 _ (search rules)) in z) in rw (r.0, r.1) at c.card_refusal-refusal.ensures in z)) ∙ z) (eq-eqb _ 0 c.if-verdict-ne0.false)) in z) in
-    end_fits _ _ ((let z : (to_z w32 (of_z w32 c.args.first) ≡ c.args.first) × (to_z w32 (of_z w32 c.args.last) ≡ c.args.last) = (to_z-of_z w32 _ (search rules), to_z-of_z w32 _ (search rules)) in z)).0 r.first_whole (omega (arith, r.order, r.high))
+    let r = ranged _ _ _ _ _ _ (back _ _ _ _ _ _ c.ranges.first c.ranges.last c.card_refusal.ensures) c.in_ok-card_refusal.was c.if-verdict-ne0.false in
+    end_fits _ _ (to_z-of_z w32 _ c.ranges.first) r.first_whole (omega (arith, r.order, r.high))
 
 pub overflow_cast-last : goal.overflow_cast-last
-overflow_cast-last c = let r = (let z : let a = c.args in Range a.first a.last = let z = c.if-refusal-ne0.false in
-    range_of_lem _ _ (card-range _ _ _ _ _ _ (sym ((let z : let a = c.args in c.card_refusal-refusal.result ≡ card_lookup_number a.first a.last a.verdict a.table.now a.fmc a.delta = let r = (let z : (to_z w32 (of_z w32 c.args.first) ≡ c.args.first) × (to_z w32 (of_z w32 c.args.last) ≡ c.args.last) = (to_z-of_z w32 _ (search rules), to_z-of_z w32 _ (search rules)) in z) in rw (r.0, r.1) at c.card_refusal-refusal.ensures in z)) ∙ z) (eq-eqb _ 0 c.if-verdict-ne0.false)) in z) in end_fits _ _ ((let z : (to_z w32 (of_z w32 c.args.first) ≡ c.args.first) × (to_z w32 (of_z w32 c.args.last) ≡ c.args.last) = (to_z-of_z w32 _ (search rules), to_z-of_z w32 _ (search rules)) in z)).1 r.last_whole r.high
+overflow_cast-last c =
+    let r = ranged _ _ _ _ _ _ (back _ _ _ _ _ _ c.ranges.first c.ranges.last c.card_refusal.ensures) c.in_ok-card_refusal.was c.if-verdict-ne0.false in
+    end_fits _ _ (to_z-of_z w32 _ c.ranges.last) r.last_whole r.high
+
+pub invariant_of-reading : goal.invariant_of-reading
+invariant_of-reading c =
+    let at = c.locate-at.ensures in
+    record {
+      table_len = (card_accepted _ _ _ _ _ _ (R.accepted c.card_refusal.ensures c.in_ok-card_refusal.was)).0;
+      low_in = rw at (low_in _ _);
+      high_in = rw at (high_in _ _);
+    }
 
 pub from_filled_rows-requires : goal.from_filled_rows-requires
 from_filled_rows-requires c =
-    let s = (let z : (to_z w32 (of_z w32 c.args.first) ≡ c.args.first) × (to_z w32 (of_z w32 c.args.last) ≡ c.args.last) = (to_z-of_z w32 _ (search rules), to_z-of_z w32 _ (search rules)) in z) in
-    let size = (card_accepted _ _ _ _ _ _ (sym c.card_refusal-refusal.ensures ∙ c.if-refusal-ne0.false)).0 in
-    let at = c.locate-at.ensures in
-    record {
-      table_len = size;
-      in_table = rw (s.0, s.1, at) (ends_in _ _ _ _ ((let z : let a = c.args in Range a.first a.last = let z = c.if-refusal-ne0.false in
-          range_of_lem _ _ (card-range _ _ _ _ _ _ (sym ((let z : let a = c.args in c.card_refusal-refusal.result ≡ card_lookup_number a.first a.last a.verdict a.table.now a.fmc a.delta = let r = (let z : (to_z w32 (of_z w32 c.args.first) ≡ c.args.first) × (to_z w32 (of_z w32 c.args.last) ≡ c.args.last) = (to_z-of_z w32 _ (search rules), to_z-of_z w32 _ (search rules)) in z) in rw (r.0, r.1) at c.card_refusal-refusal.ensures in z)) ∙ z) (eq-eqb _ 0 c.if-verdict-ne0.false)) in z)));
-      in_table_2 = (rw at (low_in _ _), rw at (high_in _ _));
-    }
+    let r = ranged _ _ _ _ _ _ (back _ _ _ _ _ _ c.ranges.first c.ranges.last c.card_refusal.ensures) c.in_ok-card_refusal.was c.if-verdict-ne0.false in
+    rw (to_z-of_z w32 _ c.ranges.first, to_z-of_z w32 _ c.ranges.last) (r.low, r.order, r.high)
 
-pub returns : goal.returns
-unfolding lookup_number lookup_values card_lookup_of card_lookup_values
-returns c =
-    let e = (let z : let a = c.args in c.card_refusal-refusal.result ≡ card_lookup_number a.first a.last a.verdict a.table.now a.fmc a.delta = let r = (let z : (to_z w32 (of_z w32 c.args.first) ≡ c.args.first) × (to_z w32 (of_z w32 c.args.last) ≡ c.args.last) = (to_z-of_z w32 _ (search rules), to_z-of_z w32 _ (search rules)) in z) in rw (r.0, r.1) at c.card_refusal-refusal.ensures in z) in
-    let s = (let z : (to_z w32 (of_z w32 c.args.first) ≡ c.args.first) × (to_z w32 (of_z w32 c.args.last) ≡ c.args.last) = (to_z-of_z w32 _ (search rules), to_z-of_z w32 _ (search rules)) in z) in
-    let z = c.if-refusal-ne0.false in
-    let v = eq-eqb _ 0 c.if-verdict-ne0.false in
-    let at = c.locate-at.ensures in
-    let found = rw (s.0, s.1) at c.from_filled_rows.ensures in
-    record {
-      value = rw (← e, eq-eqb _ 0 z, v, ← at, ← found);
-      number = sym z ∙ e;
-      values = rw (← e, eq-eqb _ 0 z, v, ← at) found;
-    }
+pub returns-clause-value : goal.returns-clause-value
+unfolding card_lookup_of
+returns-clause-value c =
+    let j = back _ _ _ _ _ _ c.ranges.first c.ranges.last c.card_refusal.ensures in
+    let found = rw (to_z-of_z w32 _ c.ranges.first, to_z-of_z w32 _ c.ranges.last, c.locate-at.ensures) at c.from_filled_rows.ensures in
+    rw (found, eq-eqb _ 0 c.if-verdict-ne0.false) (sym (R.answered_ok j _ c.in_ok-card_refusal.was))
+
+pub returns-clause-values : goal.returns-clause-values
+returns-clause-values c = ap lookup_values (returns-clause-value c) ∙ card_answer_values _ _ _ _ _ _

@@ -1,6 +1,5 @@
 use mathlib.Core.Path.{◌≡◌, sym, subst, ◌∙◌}
-use Prim.Native.Nat.{ℕ, ◌-◌, ◌≤◌}
-use native.Mathlib.Omega.{arith}
+use Prim.Native.Nat.{ℕ, ◌-◌}
 use lib.Dec.{T, lit≤}
 use lib.IntN.{ℤ, pos}
 use lib.Ieee.{Float, binary32, round, of_bits, of_int, in_float}
@@ -11,7 +10,7 @@ use Rattle.single.specs.Single.{◌⊞◌, ◌⊟◌, ◌⊠◌, num}
 use Rattle.elementary.specs.Basic.{cut_toward}
 use Rattle.table.specs.Table.{row_count, column_count}
 use Rattle.antenna.specs.Places.{r2d, clamped, next_of, place_of}
-use Rattle.antenna.proofs.Bounds.{clamped_within}
+use Rattle.antenna.proofs.Clamps.{clamped_is, next_is}
 use Rattle.antenna.proofs.Cuts.{within_mag, degrees_mag, cut-kept}
 use Rattle.antenna.proofs.places.locate.Goals as goal
 
@@ -28,12 +27,6 @@ pub cut-requires : goal.cut-requires
 unfolding round of_bits
 cut-requires c = degrees_mag _ c.requires.1
 
-pub overflow_sub-degrees : goal.overflow_sub-degrees
-overflow_sub-degrees c = rw c.clamp-j.ensures (clamped_within _ column_count (lit≤ tt)).0
-
-pub overflow_cast-degrees : goal.overflow_cast-degrees
-overflow_cast-degrees c = let h : c.clamp-j.result ≤ column_count = rw c.clamp-j.ensures (clamped_within _ column_count (lit≤ tt)).1 in omega arith
-
 pub int_to_float-result : goal.int_to_float-result
 int_to_float-result c =
     let cut = c.cut-cut_fmc in
@@ -44,4 +37,7 @@ unfolding round of_bits
 returns c =
     let cut = c.cut-cut_fmc in
     let cut2 = c.cut in
-    placed _ _ _ _ _ _ _ _ (to_z-of_z w32 _ (sfits_of cut.type_inv) ∙ cut.ensures) c.clamp-i.ensures (to_z-of_z w32 _ (sfits_of cut2.type_inv) ∙ cut2.ensures) c.clamp-j.ensures c.next.ensures c.next-2.ensures
+    let i = clamped_is _ _ row_count (lit≤ tt) (lit≤ tt) c.clamp-i.ensures.value in
+    let j = clamped_is _ _ column_count (lit≤ tt) (lit≤ tt) c.clamp-j.ensures.value in
+    placed _ _ _ _ _ _ _ _ (to_z-of_z w32 _ (sfits_of cut.type_inv) ∙ cut.ensures) i (to_z-of_z w32 _ (sfits_of cut2.type_inv) ∙ cut2.ensures) j
+    (c.min.ensures ∙ next_is _ _) (c.min-2.ensures ∙ next_is _ _)
