@@ -40,6 +40,7 @@ pub fn antenna_with(
     }
 }
 
+#[tactic(auto, unfolding(crate::specs::Antenna::antenna_of))]
 pub fn antenna_of(kop: i32, toaz: f32, params: IoncapParams, model: Model) -> Antenna
     ensures { result ≡ antenna_of kop toaz params model }
 {
