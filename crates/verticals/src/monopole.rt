@@ -4,13 +4,14 @@
 ghost use Rattle.std.specs.Prelude.{◌≡◌};
 ghost use Rattle.single.specs.Answer.{IsAnswer};
 ghost use Rattle.verticals.specs.Monopole.{short_resistance, monopole_row, not_zero, monopole_rain};
-ghost use Rattle.verticals.specs.Monopole.{monopole_settles, monopole_number, monopole_values, zero_monopole};
+ghost use Rattle.verticals.specs.Monopole.{monopole_settles, zero_monopole};
+ghost use Rattle.integrals.specs.Settled.{unsettled_number, settled_value};
 
 use angles::Elevation;
-use integrals::Turns;
-use lengths::Length;
+use integrals::Settled;
+use lengths::{Length, MONOPOLE_TURN, phase_in_waves};
 use reflection::Ground;
-use resistance::{Resistance, resistance_of};
+use resistance::resistance_of;
 
 // The radiation resistance at 0.2 wavelengths.
 const RINTW: f32 = 18.06;
@@ -26,12 +27,6 @@ pub struct Monopole {
     pub ra: f32,
 }
 
-#[derive(Clone, Copy)]
-pub enum MonopoleRow {
-    Settled(Monopole, Turns),
-    Unsettled,
-}
-
 // Below 0.2 wavelengths the resistance goes with the leg's square.
 fn short_resistance(el1: f32, ra: f32) -> f32
     ensures { result ≡ short_resistance el1 ra }
@@ -43,28 +38,22 @@ fn short_resistance(el1: f32, ra: f32) -> f32
     }
 }
 
-pub fn monopole_row(leg: Length, wave: f32) -> MonopoleRow
-    ensures { IsAnswer monopole_number monopole_values zero_monopole 11 (monopole_row leg wave) (monopole_settles leg wave) result }
+pub fn monopole_row(leg: Length, wave: f32) -> Option<Settled<Monopole>>
+    ensures { IsAnswer unsettled_number (settled_value zero_monopole) zero_monopole 11 (monopole_row leg wave) (monopole_settles leg wave) result }
 {
-    let waves = lengths::monopole_in_waves(leg, wave);
-    let d = 2.0 * waves.a;
-    let Resistance::Settled(ra, turns) = resistance_of(d, 2.0 * d) else {
-        return MonopoleRow::Unsettled;
-    };
+    let height = phase_in_waves(MONOPOLE_TURN, leg, wave);
+    let d = 2.0 * height.phase;
+    let resistance = resistance_of(d, 2.0 * d)?;
     let el1 = lengths::leg_in_waves(leg, wave).el1;
-    let ra = short_resistance(el1, ra);
-    let hwave = 6.283 * waves.x;
+    let hwave = 6.283 * height.waves;
     let both = elementary::sin_cos(hwave);
-    MonopoleRow::Settled(
-        Monopole {
-            x: waves.x,
-            hwave,
-            chwave: both.cosine,
-            shwave: both.sine,
-            ra,
-        },
-        turns,
-    )
+    Some(resistance.with(Monopole {
+        x: height.waves,
+        hwave,
+        chwave: both.cosine,
+        shwave: both.sine,
+        ra: short_resistance(el1, resistance.value),
+    }))
 }
 
 fn not_zero(v: f32) -> f32
