@@ -3,7 +3,7 @@ ghost use Rattle.std.specs.Prelude.{◌≡◌, ◌≤◌};
 ghost use Rattle.table.specs.Table.{row_count};
 ghost use Rattle.antenna.specs.FilledRows.{from_filled_rows};
 
-use crate::rows::{GainEfficiency, Reading};
+use crate::rows::{GainEfficiency, Reading, row_alone};
 use crate::tables::Table;
 
 // Below the first MHz the first row alone, from the last MHz up the last row alone.
@@ -18,11 +18,11 @@ pub(crate) fn from_filled_rows<T: Table>(
 {
     let lowest = first as u16;
     if fmc < lowest as f32 {
-        return reading.alone(first);
+        return row_alone(reading.row(first), reading.at.xdelta);
     }
     let highest = last as u16;
     if highest as f32 <= fmc {
-        return reading.alone(last);
+        return row_alone(reading.row(last), reading.at.xdelta);
     }
     reading.blend()
 }

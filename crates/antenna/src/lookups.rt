@@ -29,12 +29,12 @@ pub fn gain_lookup(table: &[f32], fmc: f32, delta: f32) -> Result<GainEfficiency
     lookup(table, fmc, delta)
 }
 
-pub fn gain_lookup_in_bytes(table: &[u8], fmc: f32, delta: f32) -> Result<GainEfficiency, Refusal>
-    ensures value { result ≡ gain_lookup_of (table_of table.now) fmc delta }
-    ensures number { lookup_number result ≡ gain_lookup_number (table_of table.now) fmc delta }
-    ensures values { lookup_values result ≡ gain_lookup_values (table_of table.now) fmc delta }
+pub fn gain_lookup_in_bytes(bytes: &[u8], fmc: f32, delta: f32) -> Result<GainEfficiency, Refusal>
+    ensures value { result ≡ gain_lookup_of (table_of bytes.now) fmc delta }
+    ensures number { lookup_number result ≡ gain_lookup_number (table_of bytes.now) fmc delta }
+    ensures values { lookup_values result ≡ gain_lookup_values (table_of bytes.now) fmc delta }
 {
-    lookup(table, fmc, delta)
+    lookup(bytes, fmc, delta)
 }
 
 // By the card's first and last MHz and its verdict: only the rows that it filled are read, outside its

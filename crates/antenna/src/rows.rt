@@ -34,7 +34,7 @@ fn blend(low: Row, high: Row, xfmc: f32, xdelta: f32) -> GainEfficiency
 }
 
 // Between its columns, with nothing done in MHz.
-fn row_alone(row: Row, xdelta: f32) -> GainEfficiency
+pub(crate) fn row_alone(row: Row, xdelta: f32) -> GainEfficiency
     ensures { result ≡ row_alone row xdelta }
 {
     GainEfficiency {
@@ -54,7 +54,8 @@ pub(crate) struct Reading<T: Table> {
 }
 
 impl<T: Table> Reading<T> {
-    fn row(&self, m: usize) -> Row
+    // The row at m MHz, at the place's columns.
+    pub(crate) fn row(&self, m: usize) -> Row
         requires { (1 ≤ m) × (m ≤ row_count) }
         ensures { result ≡ row_of (T.numbers self.now.table) m self.now.at.j self.now.at.jp1 }
     {
@@ -67,14 +68,6 @@ impl<T: Table> Reading<T> {
             above,
             efficiency,
         }
-    }
-
-    // The row at m MHz, at the place's columns.
-    pub(crate) fn alone(&self, m: usize) -> GainEfficiency
-        requires { (1 ≤ m) × (m ≤ row_count) }
-        ensures { result ≡ row_alone (row_of (T.numbers self.now.table) m self.now.at.j self.now.at.jp1) self.now.at.xdelta }
-    {
-        row_alone(self.row(m), self.at.xdelta)
     }
 
     // The blend of the place's two rows.
