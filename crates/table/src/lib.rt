@@ -16,7 +16,9 @@ pub const TABLE_LENGTH: usize = 2760;
 
 pub type Table = [f32; TABLE_LENGTH];
 
-// The last row, as a card says it.
+// The first and the last row, as a card says them.
+const LEAST_MHZ: i32 = 1;
+
 const MOST_MHZ: i32 = 30;
 
 pub fn is_table(table: &[f32]) -> bool
@@ -45,5 +47,5 @@ pub fn clear_refused(table: &mut [f32])
 pub fn is_range(first: i32, last: i32) -> bool
     ensures { result ≡ is_range first last }
 {
-    1 <= first && first <= last && last <= MOST_MHZ
+    LEAST_MHZ <= first && first <= last && last <= MOST_MHZ
 }

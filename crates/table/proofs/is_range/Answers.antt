@@ -7,7 +7,7 @@ use mir.ValLaws.{to_z-of_z}
 use borrow.Author.Rules.{rules}
 use Rattle.table.specs.Range.{is_range}
 use Rattle.table.proofs.is_range.Goals as goal
-use Rattle.table.proofs.is_range.Goals.{then-first-ge1, else-first-ge1}
+use Rattle.table.proofs.is_range.Goals.{then-first-ge-LEAST_MHZ, else-first-ge-LEAST_MHZ}
 
 -- x and y are the numbers as the machine reads them back, v the first two tests
 module _ (a b x y : ℤ) (v : Bool) (e : x ≡ a) (f : y ≡ b) (j : v ≡ (le_z (pos 1) x && le_z x y)) where
@@ -22,11 +22,11 @@ module _ (a b x y : ℤ) (v : Bool) (e : x ≡ a) (f : y ≡ b) (j : v ≡ (le_z
 pub returns-then-first-last : goal.returns-then-first-last
 returns-then-first-last c =
     by_last c.args.first c.args.last _ _ _ (to_z-of_z w32 _ (search rules)) (to_z-of_z w32 _ (search rules))
-    (elim c.if-first-ge1.branch [ then-first-ge1 w ↦ w.value-is ∙ rw w.if-first-ge1.true | else-first-ge1 w ↦ w.value-is ∙ rw w.if-first-ge1.false ])
+    (elim c.if-first-ge-LEAST_MHZ.branch [ then-first-ge-LEAST_MHZ w ↦ w.value-is ∙ rw w.if-first-ge-LEAST_MHZ.true | else-first-ge-LEAST_MHZ w ↦ w.value-is ∙ rw w.if-first-ge-LEAST_MHZ.false ])
     c.if-first-last.true
 
 pub returns-else-first-last : goal.returns-else-first-last
 returns-else-first-last c =
     by_first c.args.first c.args.last _ _ _ (to_z-of_z w32 _ (search rules)) (to_z-of_z w32 _ (search rules))
-    (elim c.if-first-ge1.branch [ then-first-ge1 w ↦ w.value-is ∙ rw w.if-first-ge1.true | else-first-ge1 w ↦ w.value-is ∙ rw w.if-first-ge1.false ])
+    (elim c.if-first-ge-LEAST_MHZ.branch [ then-first-ge-LEAST_MHZ w ↦ w.value-is ∙ rw w.if-first-ge-LEAST_MHZ.true | else-first-ge-LEAST_MHZ w ↦ w.value-is ∙ rw w.if-first-ge-LEAST_MHZ.false ])
     c.if-first-last.false
