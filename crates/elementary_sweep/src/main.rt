@@ -3,7 +3,7 @@
 // last function, first block, number of blocks, blocks in a group.
 #![tactic(auto)]
 
-ghost use Rattle.std.specs.Prelude.{◌≡◌, ◌≤◌, ◌<◌, min};
+ghost use Rattle.std.specs.Prelude.{◌≡◌, ◌≤◌, ◌<◌};
 
 use std::env::Env;
 use std::io;
@@ -14,11 +14,9 @@ fn fold_block(function: u32, block: u32, start: u64) -> u64
     ensures { result < 4294967291 }
 {
     let mut h = start;
-    let mut place: u32 = 0;
-    while place < 65536 {
+    for place in 0..65536 {
         let x = vectors::float(block * 65536 + place);
         h = (h * 65599 + elementary_calls::call(function, x) as u64) % 4294967291;
-        place += 1;
     }
     h
 }
@@ -27,50 +25,25 @@ fn fold(function: u32, first: u32, end: u32) -> u64
     requires { end ≤ 65536 }
 {
     let mut h: u64 = 0;
-    let mut block = first;
-    while block < end {
+    for block in first..end {
         h = fold_block(function, block, h);
-        block += 1;
     }
     h
-}
-
-// n with zeros in front: least 10 for two digits, 10000 for five.
-fn print_padded(rt: &impl Print, n: u32, least: u32) -> io::Result<()> {
-    let mut bound = least;
-    while bound > 1 {
-        if n < bound {
-            print!(rt; "0")?;
-        }
-        bound = bound / 10;
-    }
-    print!(rt; "{n} ")
 }
 
 fn print_group(rt: &impl Print, function: u32, first: u32, end: u32) -> io::Result<()>
     requires { (first ≤ end) × (end ≤ 65536) }
 {
-    print_padded(rt, function, 10)?;
-    print_padded(rt, first, 10000)?;
-    print_padded(rt, end - first, 10000)?;
+    let blocks = end - first;
     let h = fold(function, first, end);
-    println!(rt; "{h:08x}")
-}
-
-fn least(a: u32, b: u32) -> u32
-    ensures { result ≡ min a b }
-{
-    if a < b { a } else { b }
+    println!(rt; "{function:02} {first:05} {blocks:05} {h:08x}")
 }
 
 fn print_groups(rt: &impl Print, function: u32, first: u32, end: u32, group: u32) -> io::Result<()>
     requires { (end ≤ 65536) × (group ≤ 65536) × (0 < group) }
 {
-    let mut from = first;
-    while from < end {
-        let to = least(from + group, end);
-        print_group(rt, function, from, to)?;
-        from = from + group;
+    for from in (first..end).step_by(group as usize) {
+        print_group(rt, function, from, end.min(from + group))?;
     }
     Ok(())
 }
@@ -83,10 +56,8 @@ fn number(env: &impl Env, i: usize) -> u32
     let mut word = [0u8; 5];
     let n = env.arg(i, &mut word).unwrap_or(0);
     let mut value: u32 = 0;
-    let mut k: usize = 0;
-    while k < n {
-        value = least(value * 10 + vectors::digit(word[k]) % 10, 65536);
-        k += 1;
+    for &b in &word[..n] {
+        value = (value * 10 + vectors::digit(b) % 10).min(65536);
     }
     value
 }
@@ -94,15 +65,13 @@ fn number(env: &impl Env, i: usize) -> u32
 fn main(rt: HostRuntime) -> io::Result<()> {
     let last = number(&rt, 2);
     let first = number(&rt, 3);
-    let end = least(first + number(&rt, 4), 65536);
+    let end = (first + number(&rt, 4)).min(65536);
     let group = number(&rt, 5);
     if group == 0 {
         return Ok(());
     }
-    let mut function = number(&rt, 1);
-    while function <= last {
+    for function in number(&rt, 1)..last + 1 {
         print_groups(&rt, function, first, end, group)?;
-        function += 1;
     }
     Ok(())
 }
