@@ -35,13 +35,8 @@ fn params(parm: &[f32; 20], and: f32, anl: f32, anh: f32, aex: [f32; 4]) -> Ionc
 pub fn ioninit(index: i32, parm: &[f32; 20]) -> IoncapParams
     ensures { result ≡ ioninit_of index parm.now }
 {
-    let s6 = parm[5];
-    let s7 = parm[6];
-    let s8 = parm[7];
-    let s9 = parm[8];
-    let s10 = parm[9];
-    let s11 = parm[10];
-    let s12 = parm[11];
+    let [_, _, _, _, _, s6, s7, s8, s9, s10, s11, s12, ..] = *parm;
+    // An arm for each type, as document 01 has them.
     match index {
         1 => params(parm, s6, s7, s8, [0.0, 0.0, 0.0, 0.0]),
         2 => params(parm, 0.0, s6, s7, [0.0, 0.0, 0.0, 0.0]),
