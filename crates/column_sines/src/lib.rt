@@ -6,8 +6,9 @@ ghost use Rattle.column_sines.specs.ColumnSines.{column_sines};
 use table::COLUMNS;
 
 // As the oracle's `lists column_sines` prints them. Each has the bits that `elementary::sin` gives:
-// `sine_entry`, proofs/ColumnSines.antt.
-static SINES: [f32; COLUMNS] = [
+// `sine_entry`, proofs/ColumnSines.antt. As a static it is no plainer, and oracle/check-lists finds it
+// by its first word.
+const SINES: [f32; COLUMNS] = [
     0.0,
     0.017452406,
     0.034899496,
