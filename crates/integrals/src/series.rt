@@ -15,7 +15,8 @@ pub struct SeriesSum {
     pub turns: u32,
 }
 
-// `first` and the terms from `start` on, until one is small.
+// `first` and the terms from `start` on, until one is small. Requirement D01-F.4 asks for this loop,
+// left by break with the sum and its turns, and so for no `for`.
 fn sum_series(first: f32, start: f32, from: f32, sq: f32) -> Option<SeriesSum>
     ensures { result ≡ series_of first start from sq }
 {

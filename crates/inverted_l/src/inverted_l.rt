@@ -67,6 +67,7 @@ fn g2(row: InvertedL, azimuth: Azimuth, elevation: Elevation, earth: Ground) -> 
         return 0.0;
     }
     let ch = earth.ch;
+    // Not reflection's with_image: the Rust adds in this order here.
     let hk = 1.0 + ch * ch - 2.0 * ch * elementary::cos(earth.psih - 2.0 * row.hwave * elevation.q);
     let both = elementary::sin_cos(row.fac2 * u);
     let c = 1.0 - both.cosine * row.cfac2 - u * both.sine - 0.5 * row.sfac2 * row.sfac2 * sphip;

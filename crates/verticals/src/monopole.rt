@@ -10,7 +10,7 @@ ghost use Rattle.integrals.specs.Settled.{unsettled_number, settled_value};
 use angles::Elevation;
 use integrals::Settled;
 use lengths::{Length, MONOPOLE_TURN, phase_in_waves};
-use reflection::Ground;
+use reflection::{Ground, with_image};
 use resistance::resistance_of;
 
 // The radiation resistance at 0.2 wavelengths.
@@ -66,12 +66,10 @@ pub fn monopole_rain(row: Monopole, elevation: Elevation, earth: Ground) -> f32
     ensures { result ≡ monopole_rain row elevation earth }
 {
     let q = elevation.q;
-    let cv = earth.cv;
     let both = elementary::sin_cos(row.hwave * q);
     let top = both.cosine - row.chwave;
     let denom = not_zero(top);
     let bprim = elementary::atan((both.sine - q * row.shwave) / denom);
     let factor = elementary::powi2(top / (elevation.t * elementary::cos(bprim)));
-    let phase = elementary::cos(earth.psiv - 2.0 * bprim);
-    30.0 * (factor * (cv * cv + 1.0 - 2.0 * cv * phase)) / row.ra
+    30.0 * (factor * with_image(earth.cv, earth.psiv, 2.0, bprim)) / row.ra
 }
