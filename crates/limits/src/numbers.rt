@@ -5,6 +5,7 @@ ghost use Rattle.limits.specs.Tests.{outside, any_outside};
 
 pub const MOST: f32 = 1000.0;
 
+#[tactic(auto, using(crate::proofs::Finite::finite_is))]
 pub fn is_finite(x: f32) -> bool
     ensures { result ≡ finite x }
 {
