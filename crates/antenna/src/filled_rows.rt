@@ -7,6 +7,7 @@ use crate::rows::{GainEfficiency, Reading, row_alone};
 use crate::tables::Table;
 
 // Below the first MHz the first row alone, from the last MHz up the last row alone.
+#[tactic(auto, unfolding(crate::specs::FilledRows::from_filled_rows))]
 pub(crate) fn from_filled_rows<T: Table>(
     first: usize,
     last: usize,

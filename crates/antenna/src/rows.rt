@@ -22,6 +22,7 @@ pub(crate) struct Row {
 }
 
 // xfmc of the way from the low row to the high one, xdelta from column to column.
+#[tactic(auto, unfolding(crate::specs::Rows::blended))]
 fn blend(low: Row, high: Row, xfmc: f32, xdelta: f32) -> GainEfficiency
     ensures { result ≡ blended low high xfmc xdelta }
 {
@@ -34,6 +35,7 @@ fn blend(low: Row, high: Row, xfmc: f32, xdelta: f32) -> GainEfficiency
 }
 
 // Between its columns, with nothing done in MHz.
+#[tactic(auto, unfolding(crate::specs::Rows::row_alone))]
 pub(crate) fn row_alone(row: Row, xdelta: f32) -> GainEfficiency
     ensures { result ≡ row_alone row xdelta }
 {
@@ -55,6 +57,7 @@ pub(crate) struct Reading<T: Table> {
 
 impl<T: Table> Reading<T> {
     // The row at m MHz, at the place's columns.
+    #[tactic(auto, unfolding(crate::specs::Rows::row_of))]
     pub(crate) fn row(&self, m: usize) -> Row
         requires { (1 ≤ m) × (m ≤ row_count) }
         ensures { result ≡ row_of (T.numbers self.now.table) m self.now.at.j self.now.at.jp1 }

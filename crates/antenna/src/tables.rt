@@ -45,6 +45,7 @@ fn cell(table: &[u8], k: usize) -> f32
 impl Table for &[u8] {
     ghost numbers = { λ t. table_of t.now };
 
+    #[tactic(auto, using(crate::proofs::ByteTables::is_table_of))]
     fn is_table(self) -> bool {
         self.len() == BYTES
     }
