@@ -1,4 +1,5 @@
+#![tactic(auto)]
 // The choice of pattern by type, for a row, and its power in a direction.
 mod pattern;
 
-pub use pattern::{Pattern, PatternAnswer, pattern_of, power_of};
+pub use pattern::{Pattern, pattern_of, power_of};

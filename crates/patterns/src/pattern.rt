@@ -1,22 +1,23 @@
 // The choice of pattern by type, for a row, and its power in a direction.
 ghost use Rattle.std.specs.Prelude.{◌≡◌};
 ghost use Rattle.single.specs.Answer.{IsAnswer};
-ghost use Rattle.patterns.specs.Pattern.{pattern_settles, pattern_number, pattern_value};
+ghost use Rattle.integrals.specs.Settled.{unsettled_number, settled_value};
+ghost use Rattle.patterns.specs.Pattern.{pattern_settles};
 ghost use Rattle.patterns.specs.declared.pattern.Pattern.TheVariants as P;
 ghost use Rattle.patterns.specs.Pattern.{settled_at, dipole_of, monopole_for, inverted_l_of, pattern_of, power_of};
 
 use angles::{Azimuth, Elevation};
 use antennas::Antenna;
 use curtain::{CurtainCard, CurtainRow};
-use dipoles::{Dipole, DipoleRow};
-use integrals::Turns;
+use dipoles::Dipole;
+use integrals::{Settled, Turns};
 use interlaced::Offset;
-use inverted_l::{InvertedL, InvertedLRow};
-use lengths::Length;
+use inverted_l::InvertedL;
+use lengths::{HEIGHT_TURN, Length};
 use reflection::Ground;
 use rhombics::Legs;
-use slopes::Slope;
-use verticals::{Monopole, MonopoleRow};
+use slopes::{Slope, SlopingLegs};
+use verticals::Monopole;
 
 // What a row's cells take, by type. Other: a type outside 1 to 10, which has no pattern.
 #[derive(Clone, Copy)]
@@ -32,49 +33,40 @@ pub enum Pattern {
     Other,
 }
 
-// With the most turns of an integral's series.
-#[derive(Clone, Copy)]
-pub enum PatternAnswer {
-    Settled(Pattern, Turns),
-    Unsettled,
-}
-
 // A pattern without integrals.
-fn settled(pattern: Pattern) -> PatternAnswer
+fn settled(pattern: Pattern) -> Option<Settled<Pattern>>
     ensures { result ≡ settled_at pattern }
 {
-    PatternAnswer::Settled(pattern, Turns { ci: 0, si: 0 })
+    Some(Settled {
+        value: pattern,
+        turns: Turns::NONE,
+    })
 }
 
-fn dipole_of(fac: f32, hwave: f32) -> PatternAnswer
+fn dipole_of(fac: f32, hwave: f32) -> Option<Settled<Pattern>>
     ensures { result ≡ dipole_of fac hwave }
 {
-    let DipoleRow::Settled(row, turns) = dipoles::dipole_row(fac, hwave) else {
-        return PatternAnswer::Unsettled;
-    };
-    PatternAnswer::Settled(Pattern::Wire(row), turns)
+    let row = dipoles::dipole_row(fac, hwave)?;
+    Some(row.with(Pattern::Wire(row.value)))
 }
 
-fn monopole_of(leg: Length, wave: f32) -> PatternAnswer
+fn monopole_of(leg: Length, wave: f32) -> Option<Settled<Pattern>>
     ensures { result ≡ monopole_for leg wave }
 {
-    let MonopoleRow::Settled(row, turns) = verticals::monopole_row(leg, wave) else {
-        return PatternAnswer::Unsettled;
-    };
-    PatternAnswer::Settled(Pattern::Vertical(row), turns)
+    let row = verticals::monopole_row(leg, wave)?;
+    Some(row.with(Pattern::Vertical(row.value)))
 }
 
-fn inverted_l_of(fac: f32, hwave: f32) -> PatternAnswer
+fn inverted_l_of(fac: f32, hwave: f32) -> Option<Settled<Pattern>>
     ensures { result ≡ inverted_l_of fac hwave }
 {
-    let InvertedLRow::Settled(row, turns) = inverted_l::inverted_l_row(fac, hwave) else {
-        return PatternAnswer::Unsettled;
-    };
-    PatternAnswer::Settled(Pattern::Inverted(row), turns)
+    let row = inverted_l::inverted_l_row(fac, hwave)?;
+    Some(row.with(Pattern::Inverted(row.value)))
 }
 
-pub fn pattern_of(antenna: Antenna, wave: f32) -> PatternAnswer
-    ensures { IsAnswer pattern_number pattern_value P.Other 11 (pattern_of antenna wave) (pattern_settles antenna wave) result }
+// With the most turns of an integral's series.
+pub fn pattern_of(antenna: Antenna, wave: f32) -> Option<Settled<Pattern>>
+    ensures { IsAnswer unsettled_number (settled_value P.Other) P.Other 11 (pattern_of antenna wave) (pattern_settles antenna wave) result }
 {
     let Antenna {
         kop,
@@ -87,9 +79,17 @@ pub fn pattern_of(antenna: Antenna, wave: f32) -> PatternAnswer
     let phi = params.and;
     let aex = params.aex;
     let along = lengths::leg_in_waves(leg, wave);
-    let above = lengths::height_in_waves(height, wave);
+    let above = lengths::phase_in_waves(HEIGHT_TURN, height, wave);
     let fac = along.fac;
-    let hwave = above.hwave;
+    let hwave = above.phase;
+    let sloping = SlopingLegs {
+        aex1: aex[0],
+        wave,
+        leg: along,
+        height: above,
+        phi,
+        azimuth,
+    };
     match kop {
         1 => settled(Pattern::Rhombic(rhombics::legs_of(phi, azimuth, fac, hwave))),
         10 => settled(Pattern::Interlaced(
@@ -97,14 +97,13 @@ pub fn pattern_of(antenna: Antenna, wave: f32) -> PatternAnswer
             interlaced::offset_of(aex[0], aex[1], wave),
         )),
         8 => inverted_l_of(fac, hwave),
-        7 => settled(Pattern::Vee(slopes::vee_slope(aex[0], wave, along, above, phi, azimuth))),
-        9 => settled(Pattern::SlopingRhombic(slopes::rhombic_slope(
-            aex[0], wave, along, above, phi, azimuth,
-        ))),
+        7 => settled(Pattern::Vee(sloping.vee_slope())),
+        9 => settled(Pattern::SlopingRhombic(sloping.rhombic_slope())),
         6 => settled(Pattern::Curtain(
             curtain::curtain_card(phi, aex[0]),
-            curtain::curtain_row(fac, above.h1, aex, azimuth, wave),
+            curtain::curtain_row(fac, above.waves, aex, azimuth, wave),
         )),
+        // `3 | 4` and `2 | 5`: tried, the proof didn't close
         3 => dipole_of(fac, hwave),
         4 => dipole_of(fac, hwave),
         2 => monopole_of(leg, wave),

@@ -1,11 +1,12 @@
-use lib.Ieee.{round, of_bits, neg}
+use mathlib.Core.Path.{ap}
+use Rattle.std.specs.Prelude.{Some}
 use Rattle.patterns.specs.Pattern.{inverted_l_of}
 use Rattle.patterns.proofs.pattern.inverted_l_of.Goals as goal
 
-pub returns-in_default : goal.returns-in_default
-unfolding inverted_l_of round of_bits neg
-returns-in_default c = rw (← c.inverted_l_row.ensures.0, c.in_default.is)
+pub returns-in_err-row : goal.returns-in_err-row
+unfolding inverted_l_of
+returns-in_err-row c = rw (← c.inverted_l_row.ensures.0, c.in_err-row.was) c.from_residual.ensures
 
 pub returns : goal.returns
-unfolding inverted_l_of round of_bits neg
-returns c = rw (← c.inverted_l_row.ensures.0, c.in-Settled.is)
+unfolding inverted_l_of
+returns c = rw (← c.inverted_l_row.ensures.0, c.in_ok-row.was) (ap Some c.with.ensures)

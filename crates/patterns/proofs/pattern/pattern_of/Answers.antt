@@ -1,21 +1,24 @@
 use Prim.Native.Nat.{ℕ}
 use mathlib.Core.Path.{◌≡◌}
-use lib.Ieee.{Float}
+use lib.Ieee.{Float, round, of_bits}
 use mir.Syntax.{w32}
 use mir.Val.{of_z, to_z}
+use Rattle.std.specs.Prelude.{Option}
 use Rattle.single.specs.Answer.{IsAnswer}
+use Rattle.integrals.specs.Settled.{unsettled_number, settled_value}
+use Rattle.integrals.specs.declared.settled.Settled.{Settled}
 use Rattle.parameters.specs.Params.{is_type}
 use Rattle.parameters.proofs.Types.{is_type_lem, no_type}
-use Rattle.patterns.specs.Pattern.{pattern_by, pattern_of, pattern_settles, pattern_number, pattern_value}
+use Rattle.patterns.specs.Pattern.{pattern_by, pattern_of, pattern_settles}
 use Rattle.antennas.specs.declared.antenna.Antenna.{Antenna}
+use Rattle.patterns.specs.declared.pattern.Pattern.{Pattern}
 use Rattle.patterns.specs.declared.pattern.Pattern.TheVariants as P
-use Rattle.patterns.specs.declared.pattern.PatternAnswer.{PatternAnswer}
 use Rattle.patterns.proofs.Unsettled.{pattern_answers, type_answers}
 use borrow.Author.Rules.{rules}
 use Rattle.patterns.proofs.pattern.pattern_of.Goals as goal
-use Rattle.patterns.proofs.pattern.pattern_of.Goals.{After-height_in_waves-above}
+use Rattle.patterns.proofs.pattern.pattern_of.Goals.{After-phase_in_waves-above}
 
-module _ (c : After-height_in_waves-above) where
+module _ (c : After-phase_in_waves-above) where
   abbrev antenna : Antenna
   antenna = c.args.antenna
 
@@ -23,9 +26,10 @@ module _ (c : After-height_in_waves-above) where
   wave = c.args.wave
 
   -- an arm of the match: the type is its key's
-  answered : {n : ℕ} (r : PatternAnswer) → of_z w32 antenna.kop ≡ n → r ≡ pattern_by (to_z w32 n) antenna wave c.leg_in_waves-along.result c.height_in_waves-above.result
-      → IsAnswer pattern_number pattern_value P.Other 11 (pattern_of antenna wave) (pattern_settles antenna wave) r
-  answered r k = type_answers antenna wave c.leg_in_waves-along.result c.height_in_waves-above.result r (is_type_lem antenna.kop (search rules) k) c.leg_in_waves-along.ensures c.height_in_waves-above.ensures
+  answered : {n : ℕ} (r : Option (Settled Pattern)) → of_z w32 antenna.kop ≡ n → r ≡ pattern_by (to_z w32 n) antenna wave c.leg_in_waves-along.result c.phase_in_waves-above.result
+      → IsAnswer unsettled_number (settled_value P.Other) P.Other 11 (pattern_of antenna wave) (pattern_settles antenna wave) r
+  unfolding round of_bits
+  answered r k = type_answers antenna wave c.leg_in_waves-along.result c.phase_in_waves-above.result r (is_type_lem antenna.kop (search rules) k) c.leg_in_waves-along.ensures c.phase_in_waves-above.ensures
 
 pub returns-in_default : goal.returns-in_default
 unfolding pattern_of
