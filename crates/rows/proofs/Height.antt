@@ -16,17 +16,17 @@ use Rattle.elementary.specs.Basic.{absolute}
 use Rattle.limits.specs.Tests.{outside}
 use Rattle.limits.proofs.Outside.{within_mag}
 use Rattle.parameters.specs.Params.{is_type}
-use Rattle.lengths.specs.Length.{length_of, in_waves, phase_of, monopole_of}
+use Rattle.std.specs.Prelude.{Option, Some, None}
+use Rattle.lengths.specs.Length.{length_of, in_waves, phase_of, monopole_turn}
 use Rattle.lengths.specs.declared.length.Length.TheVariants.{Metres, Wavelengths}
 use Rattle.angles.specs.Angles.{wave_of}
 use Rattle.patterns.specs.Pattern.{pattern_of}
 use Rattle.rows.specs.Row.{height_for, row_from, row_of}
 use Rattle.antennas.specs.declared.antenna.Antenna.{Antenna}
-use Rattle.patterns.specs.declared.pattern.PatternAnswer.{PatternAnswer}
-use Rattle.patterns.specs.declared.pattern.PatternAnswer.TheVariants as A
+use Rattle.integrals.specs.Settled.{settled_map}
+use Rattle.integrals.specs.declared.settled.Settled.{Settled}
+use Rattle.patterns.specs.declared.pattern.Pattern.{Pattern}
 use Rattle.rows.specs.declared.row.Row.{Row}
-use Rattle.rows.specs.declared.row.RowAnswer.{RowAnswer}
-use Rattle.rows.specs.declared.row.RowAnswer.TheVariants.{Settled, Unsettled}
 
 mag_finite : (b : ℕ) (x : Float) → Mag b x → T (finite x)
 mag_finite b nan m = m
@@ -60,34 +60,34 @@ absolute_mag b (fin s m e) h = h
 in_waves_lem : (v wave : Float) → Mag 1000 v → AtLeast (2 ^ 3) wave → T (finite (v ⊘ wave))
 in_waves_lem v wave m w = mag_finite (2 ^ 7) (v ⊘ wave) (div_mag v wave 1000 (2 ^ 3) 7 (unfold round in refl) (lit≤ tt) m w (lit≤ tt))
 
-metres_finite : (v wave : Float) → Mag 1000 v → AtLeast (2 ^ 3) wave → T (finite (monopole_of (Metres v) wave).x)
-unfolding monopole_of phase_of
+metres_finite : (v wave : Float) → Mag 1000 v → AtLeast (2 ^ 3) wave → T (finite (phase_of monopole_turn (Metres v) wave).waves)
+unfolding phase_of
 metres_finite v wave m w = go (lt (num 0 1) v)
   where
     go : (b : Bool) → T (finite (cond b (record { phase = num 6283185 1000000 ⊠ v ⊘ wave; waves = v ⊘ wave }) (in_waves (num 6283185 1000000) (absolute v))).waves)
     go true = in_waves_lem v wave m w
     go false = mag_finite 1000 (absolute v) (absolute_mag 1000 v m)
 
-length_finite : (v wave : Float) → Mag 1000 v → AtLeast (2 ^ 3) wave → T (finite (monopole_of (length_of v) wave).x)
+length_finite : (v wave : Float) → Mag 1000 v → AtLeast (2 ^ 3) wave → T (finite (phase_of monopole_turn (length_of v) wave).waves)
 unfolding length_of
 length_finite v wave m w = go (lt v (num 0 1))
   where
-    go : (b : Bool) → T (finite (monopole_of (cond b (Wavelengths (neg v)) (Metres v)) wave).x)
-    go true = unfold monopole_of in unfold phase_of in mag_finite 1000 (neg v) (neg_mag v 1000 m)
+    go : (b : Bool) → T (finite (phase_of monopole_turn (cond b (Wavelengths (neg v)) (Metres v)) wave).waves)
+    go true = unfold phase_of in mag_finite 1000 (neg v) (neg_mag v 1000 m)
     go false = metres_finite v wave m w
 
 pub height_finite : (kop : ℤ) (v fmc : Float) → outside v ≡ false → T (le (num 1 1) fmc) → T (le fmc (num 30 1)) → T (finite (height_for kop (length_of v) (wave_of fmc)))
 unfolding height_for
 height_finite kop v fmc o low high = go (is_type kop 2 || is_type kop 5)
   where
-    go : (b : Bool) → T (finite (cond b (monopole_of (length_of v) (wave_of fmc)).x (num 1 1)))
+    go : (b : Bool) → T (finite (cond b (phase_of monopole_turn (length_of v) (wave_of fmc)).waves (num 1 1)))
     go true = length_finite v (wave_of fmc) (within_mag v o) (wave_least fmc (mhz_mag fmc low high))
     go false = unfold round in tt
 
 -- ---- a settled row has its antenna's type and leaves the type's height
-abbrev pub OfRow : (Row → Type 0) → RowAnswer → Type 0
-OfRow P (Settled row turns) = P row
-OfRow P Unsettled = Unit {0}
+abbrev pub OfRow : (Row → Type 0) → Option (Settled Row) → Type 0
+OfRow P (Some row) = P row.value
+OfRow P None = Unit {0}
 
 abbrev pub Own : Antenna → Float → Row → Type 0
 Own antenna fmc row = (row.kop ≡ antenna.kop) × (row.x ≡ height_for antenna.kop antenna.leg (wave_of fmc))
@@ -96,6 +96,6 @@ pub row_own : (antenna : Antenna) (fmc : Float) → OfRow (Own antenna fmc) (row
 unfolding row_of
 row_own antenna fmc = go (pattern_of antenna (wave_of fmc))
   where
-    go : (p : PatternAnswer) → OfRow (Own antenna fmc) (row_from antenna fmc p)
-    go (A.Settled pattern turns) = (refl, refl)
-    go A.Unsettled = tt
+    go : (p : Option (Settled Pattern)) → OfRow (Own antenna fmc) (settled_map (row_from antenna fmc) p)
+    go (Some pattern) = (refl, refl)
+    go None = tt

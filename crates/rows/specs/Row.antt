@@ -1,9 +1,9 @@
 -- Document 01 sections 4 to 6: what `iongain2` takes from the antenna and the MHz alone. Definitions only.
-use Rattle.std.specs.Prelude.{ℕ, cond, ◌||◌, ℤ, pos, get_or, Float}
+use Rattle.std.specs.Prelude.{cond, ◌||◌, ℤ, pos, get_or, Float, Option}
 use Rattle.std.specs.Float.{nan}
 use Rattle.single.specs.Single.{num}
 use Rattle.parameters.specs.Params.{is_type}
-use Rattle.lengths.specs.Length.{monopole_of}
+use Rattle.lengths.specs.Length.{phase_of, monopole_turn}
 use Rattle.parameters.specs.Model.{curtain_elevation_threshold}
 use Rattle.lengths.specs.declared.length.Length.{Length}
 use Rattle.parameters.specs.declared.params.IoncapParams.{IoncapParams}
@@ -14,11 +14,9 @@ use Rattle.patterns.specs.Pattern.{pattern_of}
 use Rattle.antennas.specs.declared.antenna.Antenna.{Antenna}
 use Rattle.patterns.specs.declared.pattern.Pattern.{Pattern}
 use Rattle.patterns.specs.declared.pattern.Pattern.TheVariants as P
-use Rattle.patterns.specs.declared.pattern.PatternAnswer.{PatternAnswer}
-use Rattle.patterns.specs.declared.pattern.PatternAnswer.TheVariants as A
+use Rattle.integrals.specs.Settled.{settled_map}
+use Rattle.integrals.specs.declared.settled.Settled.{Settled}
 use Rattle.rows.specs.declared.row.Row.{Row}
-use Rattle.rows.specs.declared.row.RowAnswer.{RowAnswer}
-use Rattle.rows.specs.declared.row.RowAnswer.TheVariants.{Settled, Unsettled}
 
 -- `sok`: type 2's gain, nothing for 7, 9 and 10, else the first extra
 unfoldable pub sok_for : ℤ → IoncapParams → Float
@@ -27,7 +25,7 @@ sok_for kop params =
 
 -- `x`, the height that a cell above the ground leaves: in wavelengths for types 2 and 5, else 1
 unfoldable pub height_for : ℤ → Length → Float → Float
-height_for kop leg wave = cond (is_type kop 2 || is_type kop 5) (monopole_of leg wave).x (num 1 1)
+height_for kop leg wave = cond (is_type kop 2 || is_type kop 5) (phase_of monopole_turn leg wave).waves (num 1 1)
 
 -- `eff8`: the inverted L's, else 0
 unfoldable pub eff8_for : Pattern → Float
@@ -41,12 +39,11 @@ eff8_for (P.Vertical row) = num 0 1
 eff8_for (P.Inverted row) = row.eff8
 eff8_for P.Other = num 0 1
 
-abbrev pub row_from : Antenna → Float → PatternAnswer → RowAnswer
-row_from antenna fmc (A.Settled pattern turns) =
+abbrev pub row_from : Antenna → Float → Pattern → Row
+row_from antenna fmc pattern =
     let kop = antenna.kop in
     let x = height_for kop antenna.leg (wave_of fmc) in
-    Settled
-    (record {
+    record {
       kop = kop;
       pattern = pattern;
       soil = soil_of antenna.params.asig antenna.params.aeps fmc;
@@ -54,18 +51,12 @@ row_from antenna fmc (A.Settled pattern turns) =
       sok = sok_for kop antenna.params;
       x = x;
       threshold = curtain_elevation_threshold antenna.model;
-    })
-    turns
-row_from antenna fmc A.Unsettled = Unsettled
+    }
 
-unfoldable pub row_of : Antenna → Float → RowAnswer
-row_of antenna fmc = row_from antenna fmc (pattern_of antenna (wave_of fmc))
+unfoldable pub row_of : Antenna → Float → Option (Settled Row)
+row_of antenna fmc = settled_map (row_from antenna fmc) (pattern_of antenna (wave_of fmc))
 
--- document 01's number and values of a row's answer: zeros and no pattern where it is refused
-unfoldable pub row_number : RowAnswer → ℕ
-row_number (Settled row turns) = 0
-row_number Unsettled = 11
-
+-- the values of a row that is refused: zeros and no pattern
 abbrev pub zero_row : Row
 zero_row =
     let o = num 0 1 in
@@ -78,7 +69,3 @@ zero_row =
       x = o;
       threshold = o;
     }
-
-unfoldable pub row_values : RowAnswer → Row
-row_values (Settled row turns) = row
-row_values Unsettled = zero_row

@@ -2,14 +2,15 @@
 ghost use Rattle.std.specs.Prelude.{◌≡◌};
 ghost use Rattle.single.specs.Answer.{IsAnswer};
 ghost use Rattle.angles.specs.Angles.{wave_of};
+ghost use Rattle.integrals.specs.Settled.{unsettled_number, settled_value};
 ghost use Rattle.patterns.specs.Pattern.{pattern_settles};
-ghost use Rattle.rows.specs.Row.{sok_for, height_for, eff8_for, row_of, row_number, row_values, zero_row};
+ghost use Rattle.rows.specs.Row.{sok_for, height_for, eff8_for, row_of, zero_row};
 
 use antennas::Antenna;
-use integrals::Turns;
-use lengths::Length;
+use integrals::Settled;
+use lengths::{Length, MONOPOLE_TURN};
 use parameters::IoncapParams;
-use patterns::{Pattern, PatternAnswer, pattern_of};
+use patterns::{Pattern, pattern_of};
 use reflection::Soil;
 
 // `x` is the height that its cells leave, `sok` the offset (the curtain adds it at the floor alone),
@@ -25,24 +26,17 @@ pub struct Row {
     pub threshold: f32,
 }
 
-// With the most turns of an integral's series.
-#[derive(Clone, Copy)]
-pub enum RowAnswer {
-    Settled(Row, Turns),
-    Unsettled,
-}
-
 // `sok`.
 fn sok_for(kop: i32, params: IoncapParams) -> f32
     ensures { result ≡ sok_for kop params }
 {
-    let aex = params.aex;
     match kop {
         2 => params.anh,
+        // `7 | 9 | 10`: tried, the proof didn't close
         7 => 0.0,
         9 => 0.0,
         10 => 0.0,
-        _ => aex[0],
+        _ => params.aex[0],
     }
 }
 
@@ -51,8 +45,7 @@ fn height_for(kop: i32, leg: Length, wave: f32) -> f32
     ensures { result ≡ height_for kop leg wave }
 {
     match kop {
-        2 => lengths::monopole_in_waves(leg, wave).x,
-        5 => lengths::monopole_in_waves(leg, wave).x,
+        2 | 5 => lengths::phase_in_waves(MONOPOLE_TURN, leg, wave).waves,
         _ => 1.0,
     }
 }
@@ -67,13 +60,12 @@ fn eff8_for(pattern: Pattern) -> f32
     }
 }
 
-pub fn row_of(antenna: Antenna, fmc: f32) -> RowAnswer
-    ensures { IsAnswer row_number row_values zero_row 11 (row_of antenna fmc) (pattern_settles antenna (wave_of fmc)) result }
+// With the most turns of an integral's series.
+pub fn row_of(antenna: Antenna, fmc: f32) -> Option<Settled<Row>>
+    ensures { IsAnswer unsettled_number (settled_value zero_row) zero_row 11 (row_of antenna fmc) (pattern_settles antenna (wave_of fmc)) result }
 {
     let wave = angles::wave_of(fmc);
-    let PatternAnswer::Settled(pattern, turns) = pattern_of(antenna, wave) else {
-        return RowAnswer::Unsettled;
-    };
+    let pattern = pattern_of(antenna, wave)?;
     let Antenna {
         kop,
         params,
@@ -82,15 +74,15 @@ pub fn row_of(antenna: Antenna, fmc: f32) -> RowAnswer
         ..
     } = antenna;
     let x = height_for(kop, leg, wave);
-    let eff8 = eff8_for(pattern);
+    let eff8 = eff8_for(pattern.value);
     let row = Row {
         kop,
-        pattern,
+        pattern: pattern.value,
         soil: reflection::soil_of(params.asig, params.aeps, fmc),
         eff: finish::efficiency(kop, x, eff8),
         sok: sok_for(kop, params),
         x,
         threshold: parameters::curtain_elevation_threshold(model),
     };
-    RowAnswer::Settled(row, turns)
+    Some(pattern.with(row))
 }

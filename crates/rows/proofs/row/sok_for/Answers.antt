@@ -8,9 +8,9 @@ use mir.Val.{of_z, to_z}
 use Rattle.rows.specs.Row.{sok_for}
 use borrow.Author.Rules.{rules}
 use Rattle.rows.proofs.row.sok_for.Goals as goal
-use Rattle.rows.proofs.row.sok_for.Goals.{After-aex-1}
+use Rattle.rows.proofs.row.sok_for.Goals.{Start}
 
-typed : (c : After-aex-1) {n : ℕ} → of_z w32 c.args.kop ≡ n → c.args.kop ≡ to_z w32 n
+typed : (c : Start) {n : ℕ} → of_z w32 c.args.kop ≡ n → c.args.kop ≡ to_z w32 n
 typed c = is_type_lem c.args.kop (search rules)
 
 pub returns-in_default : goal.returns-in_default
