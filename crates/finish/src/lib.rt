@@ -35,7 +35,8 @@ fn monopole_efficiency(x: f32) -> f32
     }
 }
 
-// Label 610: by type. The inverted L has its own.
+// Label 610: by type. The inverted L has its own. 1, 7, 9 and 10 in one arm: tried, its proof needs an
+// order on the type's number.
 pub fn efficiency(kop: i32, x: f32, eff8: f32) -> f32
     ensures { result ≡ efficiency_of kop x eff8 }
 {
