@@ -55,8 +55,7 @@ fn cell(row: Row, azimuth: Azimuth, delta: f32, t: f32, q: f32, r: f32, s: f32) 
     ensures { result ≡ cell_of row azimuth delta (record { t = t; q = q; r = r; s = s }) }
 {
     let e = Elevation { t, q, r, s };
-    let pattern = row.pattern;
-    match pattern {
+    match row.pattern {
         Pattern::Curtain(card, spacings) => curtain_cell(card, spacings, row, azimuth, delta, e),
         _ => power_cell(row, azimuth, e),
     }
@@ -83,11 +82,7 @@ pub fn blend(e: Elevation, zenith: f32, rain: f32) -> f32
 pub fn blends_with_zenith(kop: i32) -> bool
     ensures { result ≡ blends_with_zenith kop }
 {
-    match kop {
-        3 => true,
-        4 => true,
-        _ => false,
-    }
+    matches!(kop, 3 | 4)
 }
 
 // `zenith` is the row's own gain there, which types 3 and 4 alone take.

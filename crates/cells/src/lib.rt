@@ -1,3 +1,4 @@
+#![tactic(auto)]
 // A cell above the ground: `iongain2`, and the blend of types 3 and 4.
 mod cell;
 
