@@ -1,5 +1,5 @@
 -- Types 3 and 4 at elevation 0: -30 if the gain straight up is finite, else not a number. Assumes nothing.
-use Rattle.std.specs.Prelude.{◌≡◌, ℕ, ◌*◌, ◌^◌, ◌<◌, Bool, true, false, cond, ◌⊎◌, ℤ, pos}
+use Rattle.std.specs.Prelude.{◌≡◌, ℕ, ◌*◌, ◌^◌, ◌<◌, Bool, true, false, cond, ◌⊎◌, ℤ, pos, Some}
 use mathlib.Core.Path.{refl, sym, ap, ◌∙◌}
 use mathlib.Core.Logic.{inl, inr}
 use native.Mathlib.Omega.{arith}
@@ -15,11 +15,10 @@ use Rattle.elementary.specs.Trigonometric.{sine, cosine, in_range, turns, rest, 
 use Rattle.parameters.specs.Params.{is_type}
 use Rattle.angles.specs.Angles.{elevation_of}
 use Rattle.angles.specs.declared.angles.Elevation.{Elevation}
-use Rattle.integrals.specs.declared.entry.Turns.{Turns}
+use Rattle.integrals.specs.declared.settled.Settled.{Settled}
 use Rattle.finish.specs.Finish.{floor, efficiency_of, floored, ground_of}
 use Rattle.antennas.specs.declared.antenna.Antenna.{Antenna}
 use Rattle.rows.specs.declared.row.Row.{Row}
-use Rattle.rows.specs.declared.row.RowAnswer.TheVariants as R
 use Rattle.cells.specs.Cell.{zenith_gain, blend_of}
 use Rattle.gain_core.specs.Core.{ground_from, work_gain}
 
@@ -57,7 +56,7 @@ low : (kop : ℤ) (height : Float) → (kop ≡ pos 3) ⊎ (kop ≡ pos 4) → (
 unfolding ground_of floored efficiency_of is_type add neg round le lt eq
 low kop height t = elim t [ inl p ↦ rw p refl | inr p ↦ rw p refl ]
 
-pub ground_zenith : (antenna : Antenna) (height : Float) (row : Row) (n : Turns) → (antenna.kop ≡ pos 3) ⊎ (antenna.kop ≡ pos 4)
-    → work_gain (ground_from antenna horizon height (R.Settled row n)) ≡ cond (finite (zenith_gain row)) floor nan
+pub ground_zenith : (antenna : Antenna) (height : Float) (row : Settled Row) → (antenna.kop ≡ pos 3) ⊎ (antenna.kop ≡ pos 4)
+    → work_gain (ground_from antenna horizon height (Some row)) ≡ cond (finite (zenith_gain row.value)) floor nan
 unfolding blend_of
-ground_zenith antenna height row n t = rw (low antenna.kop height t, s_at_0) (blended (zenith_gain row))
+ground_zenith antenna height row t = rw (low antenna.kop height t, s_at_0) (blended (zenith_gain row.value))

@@ -1,5 +1,5 @@
 -- Laws of the gain call that a deck rests on: what the ground gives, what depends on the carried height, the height left, the floor. Assumes nothing.
-use Rattle.std.specs.Prelude.{◌≡◌, Bool, true, false, ◌||◌, T, eqb, ◌⊎◌, ℤ, pos, negsuc}
+use Rattle.std.specs.Prelude.{◌≡◌, Bool, true, false, ◌||◌, T, eqb, ◌⊎◌, ℤ, pos, negsuc, Option, Some, None}
 use mathlib.Core.Path.{refl, sym, ap, subst, ◌∙◌}
 use lib.Dec.{eqb→eq}
 use lib.Ieee.{Float, nan, lt, le}
@@ -8,7 +8,6 @@ use Rattle.parameters.specs.Params.{is_type}
 use Rattle.angles.specs.Angles.{wave_of}
 use Rattle.angles.specs.declared.angles.Elevation.{Elevation}
 use Rattle.angles.specs.declared.angles.Azimuth.{Azimuth}
-use Rattle.integrals.specs.declared.entry.Turns.{Turns}
 use Rattle.finish.specs.Finish.{floor, efficiency_of, ground_of}
 use Rattle.finish.proofs.Laws.{ground_gain_lem, ground_same_lem, floor_rule}
 use Rattle.rows.specs.Row.{height_for, row_of}
@@ -16,29 +15,27 @@ use Rattle.antennas.specs.declared.antenna.Antenna.{Antenna}
 use Rattle.patterns.specs.declared.pattern.Pattern.{Pattern}
 use Rattle.patterns.specs.declared.pattern.Pattern.TheVariants as P
 use Rattle.rows.specs.declared.row.Row.{Row}
-use Rattle.rows.specs.declared.row.RowAnswer.{RowAnswer}
-use Rattle.rows.specs.declared.row.RowAnswer.TheVariants as R
+use Rattle.integrals.specs.Settled.{unsettled_number}
+use Rattle.integrals.specs.declared.settled.Settled.{Settled}
 use Rattle.rows.proofs.Height.{Own, OfRow, row_own}
 use Rattle.cells.specs.Cell.{blends_with_zenith, cell_by, cell_of, cell_gain, power_cell, curtain_cell}
-use Rattle.gain_core.specs.Core.{above_from, above_ground, ground_from, at_ground, work_of, work_number}
+use Rattle.gain_core.specs.Core.{above_from, above_ground, ground_from, at_ground, work_of}
 use Rattle.gain_core.specs.declared.calls.Call.{Call}
 use Rattle.gain_core.proofs.Unsettled.{work_number_lem}
-use Rattle.gain_core.specs.declared.calls.Worked.{Worked}
-use Rattle.gain_core.specs.declared.calls.Worked.TheVariants.{Settled, Unsettled}
 
 -- of a call whose series settle
-abbrev pub OfCall : (Call → Type 0) → Worked → Type 0
-OfCall Q (Settled call) = Q call
-OfCall Q Unsettled = Unit {0}
+abbrev pub OfCall : (Call → Type 0) → Option Call → Type 0
+OfCall Q (Some call) = Q call
+OfCall Q None = Unit {0}
 
 -- what holds of the work on every row that is the antenna's own holds of the work on its row
-from_row : (antenna : Antenna) (fmc : Float) (work : RowAnswer → Worked) (Q : Call → Type 0) → ((row : Row) (turns : Turns) → Own antenna fmc row → OfCall Q (work (R.Settled row turns)))
-    → OfCall Q (work R.Unsettled) → OfCall Q (work (row_of antenna fmc))
+from_row : (antenna : Antenna) (fmc : Float) (work : Option (Settled Row) → Option Call) (Q : Call → Type 0)
+    → ((row : Settled Row) → Own antenna fmc row.value → OfCall Q (work (Some row))) → OfCall Q (work None) → OfCall Q (work (row_of antenna fmc))
 from_row antenna fmc work Q settled unsettled = go (row_of antenna fmc) (row_own antenna fmc)
   where
-    go : (r : RowAnswer) → OfRow (Own antenna fmc) r → OfCall Q (work r)
-    go (R.Settled row turns) own = settled row turns own
-    go R.Unsettled own = unsettled
+    go : (r : Option (Settled Row)) → OfRow (Own antenna fmc) r → OfCall Q (work r)
+    go (Some row) own = settled row own
+    go None own = unsettled
 
 -- ---- above the ground nothing depends on the carried height
 pub above : (antenna : Antenna) (fmc delta : Float) (e : Elevation) (height : Float) → le delta (num 0 1) ≡ false
@@ -55,12 +52,12 @@ below antenna fmc delta e height t = rw t refl
 pub left_above : (antenna : Antenna) (fmc delta : Float) (e : Elevation)
     → OfCall (λ call. call.height ≡ height_for antenna.kop antenna.leg (wave_of fmc)) (above_ground antenna fmc delta e)
 unfolding above_ground
-left_above antenna fmc delta e = from_row antenna fmc (above_from antenna delta e) _ (λ row turns own. own.1) tt
+left_above antenna fmc delta e = from_row antenna fmc (above_from antenna delta e) _ (λ row own. own.1) tt
 
 -- ---- the ground outside types 3 and 4: -30 plus the type's efficiency at the carried height, which stays
 pub ground_value : (antenna : Antenna) (fmc : Float) (e : Elevation) (height : Float) → blends_with_zenith antenna.kop ≡ false
     → at_ground antenna fmc e height
-    ≡ Settled
+    ≡ Some
     (record {
       gain = floor ⊞ efficiency_of antenna.kop height (num 0 1);
       efficiency = efficiency_of antenna.kop height (num 0 1);
@@ -88,19 +85,19 @@ zenith_left antenna fmc u = rw (other_types antenna.kop u) refl
 pub zenith_ground_left : (antenna : Antenna) (fmc : Float) (e : Elevation) (height : Float) → blends_with_zenith antenna.kop ≡ true
     → OfCall (λ call. call.height ≡ num 1 1) (at_ground antenna fmc e height)
 unfolding at_ground
-zenith_ground_left antenna fmc e height u = rw u (from_row antenna fmc (ground_from antenna e height) _ (λ row turns own. own.1 ∙ zenith_left antenna fmc u) tt)
+zenith_ground_left antenna fmc e height u = rw u (from_row antenna fmc (ground_from antenna e height) _ (λ row own. own.1 ∙ zenith_left antenna fmc u) tt)
 
 pub zenith_ground_same : (antenna : Antenna) (fmc : Float) (e : Elevation) (h h' : Float) → blends_with_zenith antenna.kop ≡ true → at_ground antenna fmc e h ≡ at_ground antenna fmc e h'
 unfolding at_ground
 zenith_ground_same antenna fmc e h h' u = rw u (go (row_of antenna fmc))
   where
-    go : (r : RowAnswer) → ground_from antenna e h r ≡ ground_from antenna e h' r
-    go (R.Settled row turns) = rw (ground_same_lem antenna.kop h h' (other_types antenna.kop u)) refl
-    go R.Unsettled = refl
+    go : (r : Option (Settled Row)) → ground_from antenna e h r ≡ ground_from antenna e h' r
+    go (Some row) = rw (ground_same_lem antenna.kop h h' (other_types antenna.kop u)) refl
+    go None = refl
 
 -- ---- whether 11 arises does not depend on the carried height
 pub number_same : (antenna : Antenna) (fmc delta : Float) (e : Elevation) (h h' : Float)
-    → work_number (work_of antenna fmc delta e h) ≡ work_number (work_of antenna fmc delta e h')
+    → unsettled_number (work_of antenna fmc delta e h) ≡ unsettled_number (work_of antenna fmc delta e h')
 number_same antenna fmc delta e h h' = work_number_lem antenna fmc e delta h ∙ sym (work_number_lem antenna fmc e delta h')
 
 -- ---- outside types 2, 3 and 4 a gain that is a number is above -30, or is -30 plus the call's own efficiency
@@ -124,5 +121,5 @@ pub floor_above : (antenna : Antenna) (fmc delta : Float) (e : Elevation) → is
 unfolding above_ground cell_gain cell_of
 floor_above antenna fmc delta e t u =
     from_row antenna fmc (above_from antenna delta e) _
-    (λ row turns own. rw (ap blends_with_zenith own.0 ∙ u) (cell_floor row.pattern row antenna.azimuth delta e (ap (λ (k : ℤ). is_type k 2) own.0 ∙ t)))
+    (λ row own. rw (ap blends_with_zenith own.0 ∙ u) (cell_floor row.value.pattern row.value antenna.azimuth delta e (ap (λ (k : ℤ). is_type k 2) own.0 ∙ t)))
     tt

@@ -6,60 +6,60 @@ use native.Mathlib.Omega.{arith}
 use lib.Ieee.{Float, le}
 use Rattle.single.specs.Single.{num}
 use Rattle.single.specs.Answer.{IsAnswer}
-use Rattle.integrals.specs.Settled.{settled_number}
+use Rattle.std.specs.Prelude.{Option, Some, None}
+use Rattle.integrals.specs.Settled.{settled_number, unsettled_number}
+use Rattle.integrals.specs.declared.settled.Settled.{Settled}
 use Rattle.single.proofs.Answer.{answers}
 use Rattle.angles.specs.Angles.{wave_of}
 use Rattle.angles.specs.declared.angles.Elevation.{Elevation}
 use Rattle.patterns.specs.Pattern.{pattern_settles}
 use Rattle.antennas.specs.declared.antenna.Antenna.{Antenna}
-use Rattle.rows.specs.Row.{row_number}
-use Rattle.rows.specs.declared.row.RowAnswer.{RowAnswer}
-use Rattle.rows.specs.declared.row.RowAnswer.TheVariants as R
+use Rattle.rows.specs.declared.row.Row.{Row}
 use Rattle.rows.proofs.Unsettled.{row_number_lem}
 use Rattle.cells.specs.Cell.{blends_with_zenith}
-use Rattle.gain_core.specs.Core.{above_from, above_ground, ground_from, at_ground, work_of, ground_settles, work_settles, work_number, work_values, zero_values}
-use Rattle.gain_core.specs.declared.calls.Worked.{Worked}
-use Rattle.gain_core.specs.declared.calls.Worked.TheVariants.{Settled, Unsettled}
+use Rattle.gain_core.specs.Core.{above_from, above_ground, ground_from, at_ground, work_of, ground_settles, work_settles, work_values, zero_values}
+use Rattle.gain_core.specs.declared.calls.Call.{Call}
 
-of_row_above : (antenna : Antenna) (delta : Float) (e : Elevation) (r : RowAnswer) → work_number (above_from antenna delta e r) ≡ row_number r
-unfolding row_number
-of_row_above antenna delta e (R.Settled row turns) = refl
-of_row_above antenna delta e R.Unsettled = refl
+of_row_above : (antenna : Antenna) (delta : Float) (e : Elevation) (r : Option (Settled Row)) → unsettled_number (above_from antenna delta e r) ≡ unsettled_number r
+unfolding unsettled_number
+of_row_above antenna delta e (Some row) = refl
+of_row_above antenna delta e None = refl
 
-of_row_ground : (antenna : Antenna) (e : Elevation) (height : Float) (r : RowAnswer) → work_number (ground_from antenna e height r) ≡ row_number r
-unfolding row_number
-of_row_ground antenna e height (R.Settled row turns) = refl
-of_row_ground antenna e height R.Unsettled = refl
+of_row_ground : (antenna : Antenna) (e : Elevation) (height : Float) (r : Option (Settled Row)) → unsettled_number (ground_from antenna e height r) ≡ unsettled_number r
+unfolding unsettled_number
+of_row_ground antenna e height (Some row) = refl
+of_row_ground antenna e height None = refl
 
-cases : (a : Worked) → (work_number a ≡ 0) ⊎ (work_values a ≡ zero_values)
-cases (Settled call) = inl refl
-cases Unsettled = inr refl
+cases : (a : Option Call) → (unsettled_number a ≡ 0) ⊎ (work_values a ≡ zero_values)
+unfolding unsettled_number
+cases (Some call) = inl refl
+cases None = inr refl
 
-work_answers : (whole : Worked) (settles : Bool) → work_number whole ≡ settled_number settles
-    → (r : Worked) → r ≡ whole → IsAnswer work_number work_values zero_values 11 whole settles r
-work_answers = answers work_number work_values zero_values 11 (omega arith) cases
+work_answers : (whole : Option Call) (settles : Bool) → unsettled_number whole ≡ settled_number settles
+    → (r : Option Call) → r ≡ whole → IsAnswer unsettled_number work_values zero_values 11 whole settles r
+work_answers = answers unsettled_number work_values zero_values 11 (omega arith) cases
 
 module _ (antenna : Antenna) (fmc : Float) (e : Elevation) where
-  pub above_number : (delta : Float) → work_number (above_ground antenna fmc delta e) ≡ settled_number (pattern_settles antenna (wave_of fmc))
+  pub above_number : (delta : Float) → unsettled_number (above_ground antenna fmc delta e) ≡ settled_number (pattern_settles antenna (wave_of fmc))
   unfolding above_ground
   above_number delta = of_row_above antenna delta e _ ∙ row_number_lem antenna fmc
 
-  pub ground_number : (height : Float) → work_number (at_ground antenna fmc e height) ≡ settled_number (ground_settles antenna fmc)
-  unfolding at_ground ground_settles
+  pub ground_number : (height : Float) → unsettled_number (at_ground antenna fmc e height) ≡ settled_number (ground_settles antenna fmc)
+  unfolding at_ground ground_settles unsettled_number
   ground_number height = go (blends_with_zenith antenna.kop) refl
     where
-      go : (b : Bool) → blends_with_zenith antenna.kop ≡ b → work_number (at_ground antenna fmc e height) ≡ settled_number (ground_settles antenna fmc)
+      go : (b : Bool) → blends_with_zenith antenna.kop ≡ b → unsettled_number (at_ground antenna fmc e height) ≡ settled_number (ground_settles antenna fmc)
       go true u = rw u (of_row_ground antenna e height _ ∙ row_number_lem antenna fmc)
       go false u = rw u refl
 
-  pub work_number_lem : (delta height : Float) → work_number (work_of antenna fmc delta e height) ≡ settled_number (work_settles antenna fmc delta)
+  pub work_number_lem : (delta height : Float) → unsettled_number (work_of antenna fmc delta e height) ≡ settled_number (work_settles antenna fmc delta)
   unfolding work_of work_settles
   work_number_lem delta height = go (le delta (num 0 1)) refl
     where
-      go : (b : Bool) → le delta (num 0 1) ≡ b → work_number (work_of antenna fmc delta e height) ≡ settled_number (work_settles antenna fmc delta)
+      go : (b : Bool) → le delta (num 0 1) ≡ b → unsettled_number (work_of antenna fmc delta e height) ≡ settled_number (work_settles antenna fmc delta)
       go true t = rw t (ground_number height)
       go false t = rw t (above_number delta)
 
-  pub all_answers : (delta height : Float) (r : Worked) → r ≡ work_of antenna fmc delta e height
-      → IsAnswer work_number work_values zero_values 11 (work_of antenna fmc delta e height) (work_settles antenna fmc delta) r
+  pub all_answers : (delta height : Float) (r : Option Call) → r ≡ work_of antenna fmc delta e height
+      → IsAnswer unsettled_number work_values zero_values 11 (work_of antenna fmc delta e height) (work_settles antenna fmc delta) r
   all_answers delta height = work_answers (work_of antenna fmc delta e height) (work_settles antenna fmc delta) (work_number_lem delta height)

@@ -4,13 +4,14 @@ ghost use Rattle.std.specs.Float.Ieee.{le};
 ghost use Rattle.single.specs.Single.{num};
 ghost use Rattle.single.specs.Answer.{IsAnswer};
 ghost use Rattle.cells.specs.Cell.{blends_with_zenith};
-ghost use Rattle.gain_core.specs.Core.{zenith_gain_for, work_of, work_settles, work_number, work_values, zero_values};
+ghost use Rattle.integrals.specs.Settled.{unsettled_number};
+ghost use Rattle.gain_core.specs.Core.{zenith_gain_for, work_of, work_settles, work_values, zero_values};
 
 use angles::Elevation;
 use antennas::Antenna;
 use cells::{blend, blends_with_zenith, cell_gain, zenith_gain};
-use integrals::Turns;
-use rows::{Row, RowAnswer};
+use integrals::{Settled, Turns};
+use rows::Row;
 
 // `height` is the one left, `turns` the most of an integral's series.
 #[derive(Clone, Copy)]
@@ -19,12 +20,6 @@ pub struct Call {
     pub efficiency: f32,
     pub height: f32,
     pub turns: Turns,
-}
-
-#[derive(Clone, Copy)]
-pub enum Worked {
-    Settled(Call),
-    Unsettled,
 }
 
 // What a row's cells blend with; 0 where the type takes none.
@@ -42,33 +37,27 @@ pub fn zenith_gain_for(row: Row) -> f32
 fn without_row(kop: i32, delta: f32) -> bool
     ensures { result ≡ (le delta (num 0 1) && not (blends_with_zenith kop)) }
 {
-    if delta <= 0.0 {
-        !blends_with_zenith(kop)
-    } else {
-        false
-    }
+    delta <= 0.0 && !blends_with_zenith(kop)
 }
 
 // `e` has the elevation's sine and cosine. `row_of` is called in one place, so that it is compiled
 // into it: a call would hand the row over through memory.
-pub fn work(antenna: Antenna, fmc: f32, delta: f32, e: Elevation, height: f32) -> Worked
-    ensures { IsAnswer work_number work_values zero_values 11 (work_of antenna fmc delta e height) (work_settles antenna fmc delta) result }
+pub fn work(antenna: Antenna, fmc: f32, delta: f32, e: Elevation, height: f32) -> Option<Call>
+    ensures { IsAnswer unsettled_number work_values zero_values 11 (work_of antenna fmc delta e height) (work_settles antenna fmc delta) result }
 {
     if without_row(antenna.kop, delta) {
         let low = finish::ground_gain(antenna.kop, height);
-        return Worked::Settled(Call {
+        return Some(Call {
             gain: low.gain,
             efficiency: low.efficiency,
             height,
-            turns: Turns { ci: 0, si: 0 },
+            turns: Turns::NONE,
         });
     }
-    let RowAnswer::Settled(row, turns) = rows::row_of(antenna, fmc) else {
-        return Worked::Unsettled;
-    };
+    let Settled { value: row, turns } = rows::row_of(antenna, fmc)?;
     if delta <= 0.0 {
         let low = finish::ground_gain(antenna.kop, height);
-        return Worked::Settled(Call {
+        return Some(Call {
             gain: blend(e, zenith_gain(row), low.gain),
             efficiency: low.efficiency,
             height: row.x,
@@ -76,7 +65,7 @@ pub fn work(antenna: Antenna, fmc: f32, delta: f32, e: Elevation, height: f32) -
         });
     }
     let gain = cell_gain(row, zenith_gain_for(row), antenna.azimuth, delta, e);
-    Worked::Settled(Call {
+    Some(Call {
         gain,
         efficiency: row.eff,
         height: row.x,

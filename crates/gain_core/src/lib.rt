@@ -1,4 +1,5 @@
+#![tactic(auto)]
 // `iongain` within the limits, by value.
 mod calls;
 
-pub use calls::{Call, Worked, work, zenith_gain_for};
+pub use calls::{Call, work, zenith_gain_for};
