@@ -21,6 +21,7 @@ fn too_many_bays(kop: i32, bays: f32) -> bool
 }
 
 // Of a call with a slice of the wrong length: the height is judged before.
+#[tactic(auto, unfolding(crate::specs::Tests::length_refusal, crate::specs::Refusals::first_refusal))]
 pub fn length_refusal(height: f32) -> Refusal
     ensures { number_of result ≡ length_refusal height }
 {

@@ -18,6 +18,7 @@ pub struct IoncapParams {
     pub aex: [f32; 4],
 }
 
+#[tactic(auto, unfolding(crate::specs::Params::params_of))]
 fn params(parm: &[f32; 20], and: f32, anl: f32, anh: f32, aex: [f32; 4]) -> IoncapParams
     ensures { result ≡ params_of parm.now and anl anh aex }
 {

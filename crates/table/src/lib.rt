@@ -21,6 +21,7 @@ const LEAST_MHZ: i32 = 1;
 
 const MOST_MHZ: i32 = 30;
 
+#[tactic(auto, unfolding(crate::specs::Table::is_table))]
 pub fn is_table(table: &[f32]) -> bool
     ensures { result ≡ is_table table.now }
 {
@@ -28,6 +29,7 @@ pub fn is_table(table: &[f32]) -> bool
 }
 
 // Every number becomes x.
+#[tactic(auto, unfolding(crate::specs::Table::filled_with))]
 pub fn fill(table: &mut [f32], x: f32)
     ensures { table.new ≡ filled_with table.old x }
 {
