@@ -2,6 +2,8 @@
 use mathlib.Core.Path.{◌≡◌}
 use mathlib.Core.List.{List}
 use lib.Ieee.{Float}
+use Rattle.refusals.specs.Refusals.{outcome_number}
+use Rattle.refusals.proofs.Refusals.{judged_number}
 use Rattle.independence.specs.Deck.{Entry}
 use Rattle.independence.specs.EntryContracts.{EntryDone}
 use Rattle.deck_state.specs.declared.Deck.{Deck}
@@ -11,6 +13,6 @@ use Rattle.deck.specs.Run.{count_limit, state_of, answer_on}
 
 -- the parts that a run is done by, and the answer whole
 pub answered : (deck : Deck) (e : Entry the_antenna) (t : List Float) (r : CardAnswer)
-    → EntryDone the_antenna count_limit (state_of deck) e t r.verdict (state_of r.deck)
-    → EntryDone the_antenna count_limit (state_of deck) e t r.verdict (state_of r.deck) × (r ≡ answer_on deck e)
-answered deck e t r done = (done, rw (← done.deck, ← done.verdict))
+    → EntryDone the_antenna count_limit (state_of deck) e t (outcome_number r.verdict) (state_of r.deck)
+    → EntryDone the_antenna count_limit (state_of deck) e t (outcome_number r.verdict) (state_of r.deck) × (r ≡ answer_on deck e)
+answered deck e t r done = (done, rw (← done.deck, ← done.verdict, ← judged_number r.verdict))

@@ -2,7 +2,7 @@
 use mathlib.Core.Path.{◌≡◌, sym, ap, subst, ◌∙◌}
 use mathlib.Core.List.{List}
 use mathlib.Core.Logic.{◌≢◌}
-use Prim.Native.Nat.{ℕ, suc, ◌+◌, ◌-◌, ◌<◌, ◌≤◌}
+use Prim.Native.Nat.{ℕ, ◌+◌, ◌-◌, ◌<◌, ◌≤◌}
 use native.Mathlib.Omega.{arith}
 use lib.Dec.{T}
 use lib.IntN.{ℤ, pos, nat_abs}
@@ -13,7 +13,7 @@ use mir.Val.{Fits, of_z, to_z}
 use mir.ValLaws.{to_z-of_z}
 use Rattle.antennas.specs.declared.antenna.Antenna.{Antenna}
 use Rattle.independence.specs.EntryContracts.{RowDone, CardDone}
-use Rattle.independence.proofs.Loops.{CardInv, card_step, card_stops, card_ends}
+use Rattle.independence.proofs.Loops.{CardInv, card_start, card_step, card_stops, card_ends}
 use Rattle.cards.specs.declared.card.Card.{Card}
 use Rattle.cards.specs.declared.fields.Fields.{Fields}
 use Rattle.cards.specs.Fields.{fields_refusal}
@@ -68,32 +68,34 @@ rows_of c f e p =
       last_fits = fits_at _ f.last last r.last_whole r.high;
     }
 
--- ---- the loop: a card's antenna, its first MHz and its number of rows, as they are read from the fields f
-pub record RowsOf (a : Antenna) (start number : ℕ) (f : Fields) : Type 0 where
+-- ---- the loop: a card's antenna, its first and last MHz, as they are read from the fields f
+pub record RowsOf (a : Antenna) (first last : ℕ) (f : Fields) : Type 0 where
   pub antenna : a ≡ antenna_for (card_of f)
   pub passes : fields_refusal f ≡ 0
-  pub first : start ≡ nat_abs f.first
-  pub count : number ≡ suc (nat_abs f.last) - nat_abs f.first
+  pub first_is : first ≡ nat_abs f.first
+  pub last_is : last ≡ nat_abs f.last
 
-pub rows_read : (c : Card) (a : Antenna) (f : Fields) → c ≡ card_of f → a ≡ antenna_for c → fields_refusal f ≡ 0 → RowsOf a (first_of c) (last_of c - first_of c + 1) f
-rows_read c a f e ea p =
-    let at = rows_of c f e p in
-    record { antenna = ea ∙ ap antenna_for e; passes = p; first = at.first; count = omega (arith, at.first, at.last, at.order) }
+pub rows_read : (c : Card) (a : Antenna) (f : Fields) → c ≡ card_of f → a ≡ antenna_for c → fields_refusal f ≡ 0 → RowsOf a (first_of c) (last_of c) f
+rows_read c a f e ea p = let at = rows_of c f e p in record { antenna = ea ∙ ap antenna_for e; passes = p; first_is = at.first; last_is = at.last }
 
-module _ (a : Antenna) (first count : ℕ) (f : Fields) (of : RowsOf a first count f) (h : Float) (t₀ : List Float) where
-  -- a row, after n of them
-  module _ (x y : Float) (t t' : List Float) (n r : ℕ) (i : CardInv the_antenna f h t₀ t x n) (l : n < count) (row : RowOfFields a (first + n) x t t' r y) where
-    row_done : RowDone the_antenna f (nat_abs f.first + n) x t t' r y
+module _ (a : Antenna) (first last : ℕ) (f : Fields) (of : RowsOf a first last f) (h : Float) (t₀ : List Float) where
+  pub rows_start : CardInv the_antenna f h t₀ t₀ h (first - first)
+  rows_start = let none : first - first ≡ 0 = omega arith in rw none (card_start the_antenna the_laws f h t₀)
+
+  -- the row at m MHz, after those below it
+  module _ (x y : Float) (t t' : List Float) (m r : ℕ) (i : CardInv the_antenna f h t₀ t x (m - first)) (low : first ≤ m) (high : m < last + 1) (row : RowOfFields a m x t t' r y) where
+    row_done : RowDone the_antenna f (nat_abs f.first + (m - first)) x t t' r y
     row_done =
-        let at = in_range_lem f of.passes in
-        subst (λ (k : ℕ). RowDone the_antenna f (k + n) x t t' r y) of.first
-        (row f of.antenna (record { passes = of.passes; low = omega (arith, of.first); high = omega (arith, of.first, of.count, at.order) }))
+        let at : m ≡ nat_abs f.first + (m - first) = omega (arith, of.first_is) in
+        subst (λ (k : ℕ). RowDone the_antenna f k x t t' r y) at (row f of.antenna (record { passes = of.passes; low = omega (arith, of.first_is); high = omega (arith, of.last_is) }))
 
-    pub rows_step : r ≡ 0 → CardInv the_antenna f h t₀ t' y (n + 1)
-    rows_step z = card_step the_antenna the_laws f h t₀ t t' x y n r i (omega (arith, of.count)) row_done z
+    pub rows_step : r ≡ 0 → CardInv the_antenna f h t₀ t' y (m + 1 - first)
+    rows_step z =
+        let next : m - first + 1 ≡ m + 1 - first = omega arith in
+        subst (CardInv the_antenna f h t₀ t' y) next (card_step the_antenna the_laws f h t₀ t t' x y (m - first) r i (omega (arith, of.first_is, of.last_is)) row_done z)
 
     pub rows_stop : (z : Float) → r ≢ 0 → CardDone the_antenna f h t₀ t' r z
-    rows_stop z bad = card_stops the_antenna the_laws f h t₀ t t' x y z n r i (omega (arith, of.count)) row_done bad
+    rows_stop z bad = card_stops the_antenna the_laws f h t₀ t t' x y z (m - first) r i (omega (arith, of.first_is, of.last_is)) row_done bad
 
-  pub rows_end : (x : Float) (t : List Float) (n : ℕ) → CardInv the_antenna f h t₀ t x n → count ≤ n → CardDone the_antenna f h t₀ t 0 x
-  rows_end x t n i l = card_ends the_antenna the_laws f h t₀ t x n i (omega (arith, of.count))
+  pub rows_end : (x : Float) (t : List Float) (m : ℕ) → CardInv the_antenna f h t₀ t x (m - first) → last + 1 ≤ m → CardDone the_antenna f h t₀ t 0 x
+  rows_end x t m i l = card_ends the_antenna the_laws f h t₀ t x (m - first) i (omega (arith, of.first_is, of.last_is))

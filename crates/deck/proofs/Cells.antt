@@ -9,10 +9,10 @@ use Rattle.single.specs.Single.{num, whole}
 use Rattle.angles.specs.Angles.{wave_of}
 use Rattle.rows.specs.Row.{height_for, row_of}
 use Rattle.rows.specs.declared.row.Row.{Row}
-use Rattle.rows.specs.declared.row.RowAnswer.{RowAnswer}
-use Rattle.rows.specs.declared.row.RowAnswer.TheVariants as R
+use Rattle.std.specs.Prelude.{Option, Some, None}
 use Rattle.rows.proofs.Height.{Own, row_own}
-use Rattle.integrals.specs.declared.entry.Turns.{Turns}
+use Rattle.integrals.specs.Settled.{unsettled_number}
+use Rattle.integrals.specs.declared.settled.Settled.{Settled}
 use Rattle.cells.specs.Cell.{blends_with_zenith}
 use Rattle.gain_core.specs.Core.{zenith_gain_for, above_from, above_ground, at_ground}
 use Rattle.gain_core.proofs.Laws.{above, below}
@@ -38,22 +38,25 @@ module _ (c : Card) (m : ℕ) where
   at_ground_lem h P by = rw (call_ground h) (by (blends_with_zenith (antenna_for c).kop) refl)
 
   -- ---- a row whose series do not settle refuses every cell above the ground
-  module _ (un : row_of (antenna_for c) (whole m) ≡ R.Unsettled) where
+  module _ (un : row_of (antenna_for c) (whole m) ≡ None) where
     pub above_unsettled : (d : ℕ) (h : Float) → d < 90 → (call_of c m (suc d) h).refusal ≡ 11
-    unfolding above_ground
+    unfolding above_ground unsettled_number
     above_unsettled d h k =
-        ap (λ (a : Answer). a.refusal) (call_above d h k) ∙ ap (λ (r : RowAnswer). (answer_of (above_from (antenna_for c) (elevation_at (suc d)) (column_at (suc d)) r)).refusal) un
+        ap (λ (a : Answer). a.refusal) (call_above d h k) ∙ ap (λ (r : Option (Settled Row)). (answer_of (above_from (antenna_for c) (elevation_at (suc d)) (column_at (suc d)) r)).refusal) un
 
     pub ground_unsettled : (h : Float) → ((call_of c m 0 h).refusal ≡ 0) ⊎ ((call_of c m 0 h).refusal ≡ 11)
-    unfolding at_ground
+    unfolding at_ground unsettled_number
     ground_unsettled h = at_ground_lem h (λ a. (a.refusal ≡ 0) ⊎ (a.refusal ≡ 11)) (λ up. elim up as (λ k. blends_with_zenith (antenna_for c).kop ≡ k → ((answer_of (at_ground (antenna_for c) (whole m) (column_at 0) h)).refusal ≡ 0) ⊎ ((answer_of (at_ground (antenna_for c) (whole m) (column_at 0) h)).refusal ≡ 11)) [ true ↦ λ e. rw (e, un) (inr refl) | false ↦ λ e. rw e (inl refl) ])
 
   -- ---- a row that settles
-  module _ (row : Row) (turns : Turns) (is : row_of (antenna_for c) (whole m) ≡ R.Settled row turns) where
+  module _ (settled : Settled Row) (is : row_of (antenna_for c) (whole m) ≡ Some settled) where
+    abbrev row : Row
+    row = settled.value
+
     pub above_settled : (d : ℕ) (h : Float) → d < 90
         → call_of c m (suc d) h ≡ record { refusal = 0; gain = cell_at row (zenith_gain_for row) (antenna_for c).azimuth (suc d); efficiency = row.eff; height = row.x }
-    unfolding above_ground
-    above_settled d h k = call_above d h k ∙ ap (λ (r : RowAnswer). answer_of (above_from (antenna_for c) (elevation_at (suc d)) (column_at (suc d)) r)) is
+    unfolding above_ground unsettled_number
+    above_settled d h k = call_above d h k ∙ ap (λ (r : Option (Settled Row)). answer_of (above_from (antenna_for c) (elevation_at (suc d)) (column_at (suc d)) r)) is
 
     own : Own (antenna_for c) (whole m) row
     own = rw is at (row_own (antenna_for c) (whole m))
@@ -62,7 +65,7 @@ module _ (c : Card) (m : ℕ) where
     row_height = own.1
 
     pub ground_settled : (h : Float) → ((call_of c m 0 h).refusal ≡ 0) × ((call_of c m 0 h).gain ≡ ground_cell (antenna_for c).kop (zenith_gain_for row) (column_at 0) h)
-    unfolding at_ground zenith_gain_for ground_cell
+    unfolding at_ground zenith_gain_for ground_cell unsettled_number
     ground_settled h =
         at_ground_lem h (λ a. (a.refusal ≡ 0) × (a.gain ≡ ground_cell (antenna_for c).kop (zenith_gain_for row) (column_at 0) h))
         (λ up. elim up as (λ k. blends_with_zenith (antenna_for c).kop ≡ k → ((answer_of (at_ground (antenna_for c) (whole m) (column_at 0) h)).refusal ≡ 0) × ((answer_of (at_ground (antenna_for c) (whole m) (column_at 0) h)).gain ≡ ground_cell (antenna_for c).kop (zenith_gain_for row) (column_at 0) h)) [ true ↦ λ e. rw (e, is, ap blends_with_zenith own.0 ∙ e) (refl, refl) | false ↦ λ e. rw e (refl, refl) ])

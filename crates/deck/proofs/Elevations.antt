@@ -2,7 +2,7 @@
 use mathlib.Core.Path.{◌≡◌, ap₂, sym, subst, ◌∙◌}
 use mathlib.Core.List.{List}
 use mathlib.Core.Logic.{inl, inr}
-use Prim.Native.Nat.{ℕ, suc, ◌+◌, ◌<◌, ◌≤◌}
+use Prim.Native.Nat.{ℕ, suc, ◌+◌, ◌<◌}
 use native.Mathlib.Omega.{arith}
 use native.Mathlib.Numerals.{add-one}
 use native.Mathlib.Nat.{eq-or-lt_of_le, le_of_suc-le-suc, not-suc-le-zero}
@@ -47,9 +47,6 @@ columns_step a b n x y s k p q =
       cosine = stored (λ d. cosine (elevation_at d)) b n y (omega (arith, s.cosine_count)) s.cosine (rw (← p) q);
       sine = λ d h. sine_entry d (omega arith);
     })
-
-pub columns_done : (a b c : List Float) (n : ℕ) → ColumnsAre a b c n → n ≤ 91 → 91 ≤ n → ColumnsAre a b c 91
-columns_done a b c n s l h = let e : n ≡ 91 = omega arith in subst (ColumnsAre a b c) e s
 
 pub column_read : (a b c : List Float) (d : ℕ) → ColumnsAre a b c 91 → d < 91 → elevation_of (get_or b d nan) (get_or c d nan) ≡ column_at d
 unfolding column_at

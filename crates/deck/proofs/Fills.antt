@@ -9,12 +9,12 @@ use lib.IntN.{ℤ}
 use lib.ListN.{set}
 use lib.Ieee.{Float}
 use Rattle.single.specs.Single.{whole}
-use Rattle.integrals.specs.declared.entry.Turns.{Turns}
+use Rattle.integrals.specs.declared.settled.Settled.{Settled}
 use Rattle.angles.specs.declared.angles.Elevation.{Elevation}
 use Rattle.antennas.specs.declared.antenna.Antenna.{Antenna}
 use Rattle.rows.specs.Row.{row_of}
 use Rattle.rows.specs.declared.row.Row.{Row}
-use Rattle.rows.specs.declared.row.RowAnswer.TheVariants as R
+use Rattle.std.specs.Prelude.{Some, None}
 use Rattle.gain_core.specs.Core.{zenith_gain_for}
 use Rattle.table.specs.Table.{gain_at}
 use Rattle.independence.specs.Antenna.{Answer}
@@ -30,21 +30,24 @@ use Rattle.deck.proofs.Cells.{above_unsettled, ground_unsettled, above_settled, 
 use Rattle.deck.proofs.Laws.{the_laws, left_is}
 
 -- ---- the series do not settle: refusal 11
-pub row_unsettled : (a : Antenna) (m : ℕ) (h : Float) (t : List Float) (y : Float) → row_of a (whole m) ≡ R.Unsettled → RowOfFields a m h t t 11 y
+pub row_unsettled : (a : Antenna) (m : ℕ) (h : Float) (t : List Float) (y : Float) → row_of a (whole m) ≡ None → RowOfFields a m h t t 11 y
 row_unsettled a m h t y un f e F =
-    let un' : row_of (antenna_for (card_of f)) (whole m) ≡ R.Unsettled = ap (λ (x : Antenna). row_of x (whole m)) (sym e) ∙ un in
+    let un' : row_of (antenna_for (card_of f)) (whole m) ≡ None = ap (λ (x : Antenna). row_of x (whole m)) (sym e) ∙ un in
     row_stops the_antenna the_laws f m h t t 11 y refl (λ z. omega arith)
     (sym (row_refusal the_antenna the_laws f m h 11 (ground_unsettled (card_of f) m un') (λ d x l. above_unsettled (card_of f) m un' d x l)))
 
 -- ---- the series settle: t₁ has the ground gain, and the gains above it are stored
-module _ (f : Fields) (m : ℕ) (F : Fills the_antenna f m) (row : Row) (turns : Turns) (is : row_of (antenna_for (card_of f)) (whole m) ≡ R.Settled row turns) where
+module _ (f : Fields) (m : ℕ) (F : Fills the_antenna f m) (s : Settled Row) (is : row_of (antenna_for (card_of f)) (whole m) ≡ Some s) where
+  abbrev row : Row
+  row = s.value
+
   gains_stored : (t₁ : List Float) (n : ℕ) → n ≤ 90 → GainsStored the_antenna f m t₁ (stored_above (cell_at row (zenith_gain_for row) (antenna_for (card_of f)).azimuth) m n t₁) (suc n)
   unfolding stored_above
   gains_stored t₁ zero l = row_start the_antenna the_laws f m t₁
   gains_stored t₁ (suc n) l =
       rw add-one at
       (row_step the_antenna the_laws f m row.x t₁ _ (suc n) (gain_at m (suc n)) (cell_at row (zenith_gain_for row) (antenna_for (card_of f)).azimuth (suc n)) F (gains_stored t₁ n (omega arith)) (omega arith) refl
-      (sym (ap (λ (a : Answer). a.gain) (above_settled (card_of f) m row turns is n row.x (omega arith)))))
+      (sym (ap (λ (a : Answer). a.gain) (above_settled (card_of f) m s is n row.x (omega arith)))))
 
   settled : (h g : Float) (t₀ t : List Float) → g ≡ ground_cell (antenna_for (card_of f)).kop (zenith_gain_for row) (column_at 0) h
       → t ≡ stored_above (cell_at row (zenith_gain_for row) (antenna_for (card_of f)).azimuth) m 90 (set t₀ ((m - 1) * 91) g)
@@ -53,18 +56,18 @@ module _ (f : Fields) (m : ℕ) (F : Fills the_antenna f m) (row : Row) (turns :
       row_ends the_antenna the_laws f m h row.x t₀ t ((m - 1) * 91) 91 (2730 + (m - 1)) g row.eff row.x F
       (subst (λ (x : List Float). GainsStored the_antenna f m (set t₀ ((m - 1) * 91) g) x 91) (sym et) (gains_stored (set t₀ ((m - 1) * 91) g) 90 (omega arith)))
       (omega arith)
-      (sym (row_refusal the_antenna the_laws f m h 0 (λ x. inl (ground_settled (card_of f) m row turns is x).0) (λ d x l. ap (λ (a : Answer). a.refusal) (above_settled (card_of f) m row turns is d x l))))
+      (sym (row_refusal the_antenna the_laws f m h 0 (λ x. inl (ground_settled (card_of f) m s is x).0) (λ d x l. ap (λ (a : Answer). a.refusal) (above_settled (card_of f) m s is d x l))))
       (omega arith)
-      (eg ∙ sym (ground_settled (card_of f) m row turns is h).1)
+      (eg ∙ sym (ground_settled (card_of f) m s is h).1)
       refl
-      (sym (ap (λ (a : Answer). a.efficiency) (above_settled (card_of f) m row turns is 89 row.x (omega arith))))
-      (row_height (card_of f) m row turns is ∙ (unfold card_of antenna_for in left_is f m F.passes))
+      (sym (ap (λ (a : Answer). a.efficiency) (above_settled (card_of f) m s is 89 row.x (omega arith))))
+      (row_height (card_of f) m s is ∙ (unfold card_of antenna_for in left_is f m F.passes))
 
-pub row_settled : (a : Antenna) (m : ℕ) (h up g : Float) (kop : ℤ) (e₀ : Elevation) (t₀ t : List Float) (row : Row) (turns : Turns) → row_of a (whole m) ≡ R.Settled row turns
-    → kop ≡ a.kop → up ≡ zenith_gain_for row → e₀ ≡ column_at 0
-    → g ≡ ground_cell kop up e₀ h → t ≡ stored_above (cell_at row up a.azimuth) m 90 (set t₀ ((m - 1) * 91) g)
-    → RowOfFields a m h t₀ (set t (2730 + (m - 1)) row.eff) 0 row.x
-row_settled a m h up g kop e₀ t₀ t row turns is ek eu ee eg et f e F =
-    settled f m F row turns (ap (λ (x : Antenna). row_of x (whole m)) (sym e) ∙ is) h g t₀ t
+pub row_settled : (a : Antenna) (m : ℕ) (h up g : Float) (kop : ℤ) (e₀ : Elevation) (t₀ t : List Float) (s : Settled Row) → row_of a (whole m) ≡ Some s
+    → kop ≡ a.kop → up ≡ zenith_gain_for s.value → e₀ ≡ column_at 0
+    → g ≡ ground_cell kop up e₀ h → t ≡ stored_above (cell_at s.value up a.azimuth) m 90 (set t₀ ((m - 1) * 91) g)
+    → RowOfFields a m h t₀ (set t (2730 + (m - 1)) s.value.eff) 0 s.value.x
+row_settled a m h up g kop e₀ t₀ t s is ek eu ee eg et f e F =
+    settled f m F s (ap (λ (x : Antenna). row_of x (whole m)) (sym e) ∙ is) h g t₀ t
     (eg ∙ (λ i. ground_cell ((ek ∙ ap (λ (x : Antenna). x.kop) e) i) (eu i) (ee i) h))
-    (et ∙ (λ i. stored_above (cell_at row (eu i) (e i).azimuth) m 90 (set t₀ ((m - 1) * 91) g)))
+    (et ∙ (λ i. stored_above (cell_at s.value (eu i) (e i).azimuth) m 90 (set t₀ ((m - 1) * 91) g)))

@@ -7,5 +7,6 @@ pub mod Laws
 pub mod BeforeWork
 pub mod Fills
 pub mod CardRows
+pub mod Work
 pub mod Answers
 pub mod Whole

@@ -1,16 +1,17 @@
 -- Document 01 section 8: the gain call of a cell. Definitions only.
-use Rattle.std.specs.Prelude.{ℕ, Float}
+use Rattle.std.specs.Prelude.{ℕ, Float, Option}
 use Rattle.single.specs.Single.{num, whole}
-use Rattle.gain_core.specs.Core.{work_of, work_number, work_gain, work_efficiency, work_height}
-use Rattle.gain_core.specs.declared.calls.Worked.{Worked}
+use Rattle.gain_core.specs.Core.{work_of, work_gain, work_efficiency, work_height}
+use Rattle.gain_core.specs.declared.calls.Call.{Call}
+use Rattle.integrals.specs.Settled.{unsettled_number}
 use Rattle.independence.specs.Antenna.{Answer}
 use Rattle.cards.specs.declared.card.Card.{Card}
 use Rattle.cards.specs.Card.{antenna_for}
 use Rattle.deck.specs.Columns.{elevation_at, column_at}
 
 -- 11 arises in the work. It ends the card, which keeps the height that it found, so no height is taken from such a call
-abbrev pub answer_of : Worked → Answer
-answer_of w = record { refusal = work_number w; gain = work_gain w; efficiency = work_efficiency w; height = work_height w (num 0 1) }
+abbrev pub answer_of : Option Call → Answer
+answer_of w = record { refusal = unsettled_number w; gain = work_gain w; efficiency = work_efficiency w; height = work_height w (num 0 1) }
 
 -- the gain call at m MHz and d degrees, with the height h
 unfoldable pub call_of : Card → ℕ → ℕ → Float → Answer

@@ -1,3 +1,4 @@
+#![tactic(auto)]
 // What the columns of a table have in common: the elevations of 0 to 90 degrees.
 ghost use Rattle.table.specs.Table.{column_count};
 ghost use Rattle.deck.specs.Columns.{ColumnsAre};
@@ -11,22 +12,18 @@ pub(crate) struct Columns {
     pub deltas: [f32; COLUMNS],
     pub cosines: [f32; COLUMNS],
     pub sines: [f32; COLUMNS],
+    ghost elevations: { ColumnsAre deltas cosines sines column_count },
 }
 
 // The sines are read from a table, the rest is computed.
-pub(crate) fn all_columns() -> Columns
-    ensures { ColumnsAre result.deltas result.cosines result.sines column_count }
-{
+pub(crate) fn all_columns() -> Columns {
     let mut deltas = [0.0f32; COLUMNS];
     let mut cosines = [0.0f32; COLUMNS];
     let sines = column_sines();
-    let mut d: usize = 0;
-    while d < COLUMNS {
-        let degrees = d as u16;
-        let delta = angles::radians_of(degrees as f32);
+    for d in 0..COLUMNS {
+        let delta = angles::radians_of(d as u16 as f32);
         deltas[d] = delta;
         cosines[d] = elementary::cos(delta);
-        d += 1;
     }
     Columns {
         deltas,

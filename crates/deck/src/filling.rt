@@ -1,42 +1,30 @@
+#![tactic(auto)]
 // The filling of a card's rows, by rising MHz.
-ghost use Rattle.std.specs.Prelude.{◌≡◌, length};
-ghost use Rattle.table.specs.Table.{table_length};
+ghost use Rattle.std.specs.Prelude.{◌≡◌};
+ghost use Rattle.refusals.specs.Refusals.{outcome_number, outcome_values};
 ghost use Rattle.independence.specs.EntryContracts.{CardDone};
 ghost use Rattle.cards.specs.Fields.{fields_refusal};
 ghost use Rattle.deck.specs.Antenna.{the_antenna};
 
-use crate::columns::{Columns, all_columns};
-use crate::row::{Filled, fill_row};
+use crate::columns::all_columns;
+use crate::row::fill_row;
 use cards::{Fields, card_antenna, read_card};
+use refusals::Refusal;
+use table::Table;
 
-pub(crate) fn fill_card(fields: Fields, height: f32, table: &mut [f32]) -> Filled
-    requires { (length table.old ≡ table_length) × (fields_refusal fields ≡ 0) }
-    ensures { CardDone the_antenna fields height table.old table.new result.refusal result.height }
+// The height left.
+pub(crate) fn fill_card(fields: Fields, height: f32, table: &mut Table) -> Result<f32, Refusal>
+    requires { fields_refusal fields ≡ 0 }
+    ensures { CardDone the_antenna fields height table.old table.new (outcome_number result) (outcome_values height result) }
 {
     let card = read_card(fields);
     let antenna = card_antenna(card);
-    let Columns {
-        deltas,
-        cosines,
-        sines,
-    } = all_columns();
+    let columns = all_columns();
     let first = card.first as usize;
-    let count = card.last as usize - first + 1;
+    let last = card.last as usize;
     let mut x = height;
-    let mut n: usize = 0;
-    while n < count {
-        let r = fill_row(antenna, first + n, x, &deltas, &cosines, &sines, table);
-        if r.refusal != 0 {
-            return Filled {
-                refusal: r.refusal,
-                height,
-            };
-        }
-        x = r.height;
-        n += 1;
+    for m in first..last + 1 {
+        x = fill_row(antenna, m, x, &columns, table)?;
     }
-    Filled {
-        refusal: 0,
-        height: x,
-    }
+    Ok(x)
 }

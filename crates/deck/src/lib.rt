@@ -1,3 +1,4 @@
+#![tactic(auto)]
 // The deck of document 01 section 8: it runs cards, and demand 3 holds of them (proofs/Whole.antt).
 mod columns;
 mod filling;

@@ -1,20 +1,16 @@
+#![tactic(auto)]
 // The filling of a row: what holds for it once, then its 91 gains and its efficiency.
-ghost use Rattle.std.specs.Prelude.{◌≡◌, ◌≤◌, length};
-ghost use Rattle.table.specs.Table.{row_count, column_count, table_length};
-ghost use Rattle.deck.specs.Columns.{ColumnsAre};
+ghost use Rattle.std.specs.Prelude.{◌≡◌, ◌≤◌};
+ghost use Rattle.refusals.specs.Refusals.{outcome_number, outcome_values};
+ghost use Rattle.table.specs.Table.{row_count};
 ghost use Rattle.deck.specs.Row.{ground_cell, cell_at, stored_above, RowOfFields};
 
+use crate::columns::Columns;
 use angles::{Azimuth, Elevation};
 use antennas::Antenna;
-use rows::{Row, RowAnswer};
-use table::{COLUMNS, GAINS};
-
-// `refusal` is 0 if there is none; `height` is the one left.
-#[derive(Clone, Copy)]
-pub(crate) struct Filled {
-    pub refusal: u32,
-    pub height: f32,
-}
+use refusals::Refusal;
+use rows::Row;
+use table::{COLUMNS, GAINS, Table};
 
 // `zenith` is the row's own gain there, which types 3 and 4 alone take.
 fn ground_cell(kop: i32, zenith: f32, e: Elevation, height: f32) -> f32
@@ -32,60 +28,38 @@ fn fill_above(
     zenith: f32,
     azimuth: Azimuth,
     m: usize,
-    deltas: &[f32],
-    cosines: &[f32],
-    sines: &[f32],
-    table: &mut [f32],
+    columns: &Columns,
+    table: &mut Table,
 )
-    requires { (length table.old ≡ table_length) × (1 ≤ m) × (m ≤ row_count) × ColumnsAre deltas.now cosines.now sines.now column_count }
-    ensures { (table.new ≡ stored_above (cell_at row zenith azimuth) m 90 table.old)
-        × (length table.new ≡ length table.old) }
+    requires { (1 ≤ m) × (m ≤ row_count) }
+    ensures { table.new ≡ stored_above (cell_at row zenith azimuth) m 90 table.old }
 {
     let base = (m - 1) * COLUMNS;
-    let mut d: usize = 1;
-    while d < COLUMNS {
-        let e = angles::elevation_of(cosines[d], sines[d]);
-        table[base + d] = cells::cell_gain(row, zenith, azimuth, deltas[d], e);
-        d += 1;
+    for d in 1..COLUMNS {
+        let e = angles::elevation_of(columns.cosines[d], columns.sines[d]);
+        table[base + d] = cells::cell_gain(row, zenith, azimuth, columns.deltas[d], e);
     }
 }
 
-// The ground cell alone takes the height that the row finds.
+// The height left. The ground cell alone takes the height that the row finds.
 pub(crate) fn fill_row(
     antenna: Antenna,
     m: usize,
     height: f32,
-    deltas: &[f32],
-    cosines: &[f32],
-    sines: &[f32],
-    table: &mut [f32],
-) -> Filled
-    requires { (length table.old ≡ table_length) × (1 ≤ m) × (m ≤ row_count) × ColumnsAre deltas.now cosines.now sines.now column_count }
-    ensures { RowOfFields antenna m height table.old table.new result.refusal result.height }
+    columns: &Columns,
+    table: &mut Table,
+) -> Result<f32, Refusal>
+    requires { (1 ≤ m) × (m ≤ row_count) }
+    ensures { RowOfFields antenna m height table.old table.new (outcome_number result) (outcome_values height result) }
 {
-    let mhz = m as u16;
-    let RowAnswer::Settled(row, _) = rows::row_of(antenna, mhz as f32) else {
-        return Filled {
-            refusal: 11,
-            height,
-        };
+    let Some(settled) = rows::row_of(antenna, m as u16 as f32) else {
+        return Err(Refusal::Unsettled);
     };
+    let row = settled.value;
     let zenith = gain_core::zenith_gain_for(row);
-    let e = angles::elevation_of(cosines[0], sines[0]);
+    let e = angles::elevation_of(columns.cosines[0], columns.sines[0]);
     table[(m - 1) * COLUMNS] = ground_cell(antenna.kop, zenith, e, height);
-    fill_above(
-        row,
-        zenith,
-        antenna.azimuth,
-        m,
-        deltas,
-        cosines,
-        sines,
-        table,
-    );
+    fill_above(row, zenith, antenna.azimuth, m, columns, table);
     table[GAINS + (m - 1)] = row.eff;
-    Filled {
-        refusal: 0,
-        height: row.x,
-    }
+    Ok(row.x)
 }

@@ -9,7 +9,7 @@ use Rattle.deck.proofs.run.run_malformed.Goals as goal
 
 pub returns : goal.returns
 returns c =
-    let verdict = c.malformed_refusal-verdict.ensures in
+    let verdict = c.malformed_refusal-refusal.ensures in
     let room = room_malformed the_antenna the_laws count_limit _ _ _ verdict in
     let deck = ap state_of c.refused_deck.ensures ∙ within _ _ (λ ne. room ne) in
     let both = answered _ _ _ _ (entry_malformed the_antenna the_laws count_limit _ _ _ _ _ verdict c.clear_refused.ensures deck) in
