@@ -1,41 +1,58 @@
 -- A gain call's answer has document 01's number and values: the first refusal's, else the work's. Assumes nothing.
 use Prim.Native.Nat.{ℕ}
-use mathlib.Core.Path.{◌≡◌, refl, sym, subst}
-use mathlib.Core.Bool.{Bool, true, false, cond}
+use mathlib.Core.Path.{◌≡◌, refl}
 use mathlib.Core.Logic.{◌↔◌}
 use native.Mathlib.Omega.{arith}
-use lib.Dec.{eqb}
+use borrow.Author.Tests.{ne_eqb}
 use lib.Ieee.{Float}
-use Rattle.single.specs.Single.{num}
+use Rattle.std.specs.Prelude.{false, eqb, Option, Some, None, Result, Ok, Err, ok_or}
 use Rattle.limits.proofs.None.{any_holds, zero_none}
-use Rattle.gain_core.specs.Core.{work_number, work_gain, work_efficiency, work_height}
+use Rattle.integrals.specs.Settled.{unsettled_number}
+use Rattle.refusals.specs.Refusals.{IsJudged, number_of}
+use Rattle.refusals.specs.declared.Refusal.{Refusal}
+use Rattle.refusals.specs.declared.Refusal.TheVariants as R
+use Rattle.refusals.proofs.Refusals.{accepted, refused, number_positive, refusal_of_number}
+use Rattle.gain_core.specs.declared.calls.Call.{Call}
+use Rattle.gain_core.specs.Core.{work_gain, work_efficiency, work_height}
 use Rattle.ioncap.specs.Gain.{call_tests, call_refusal, call_work, answered, gain_of, gain_number, gain_value, efficiency_value, height_left, call_number, call_gain, call_efficiency, call_height}
-use Rattle.gain_core.specs.declared.calls.Worked.{Worked}
-use Rattle.gain_core.specs.declared.calls.Worked.TheVariants as W
 use Rattle.ioncap.specs.declared.gain.GainCall.{GainCall}
-use Rattle.ioncap.specs.declared.gain.Gain.{Gain}
-use Rattle.ioncap.specs.declared.gain.Gain.TheVariants.{Refused}
+use Rattle.ioncap.specs.declared.gain.Answer.{Answer}
 
-abbrev Means : ℕ → Float → Float → Float → Float → Gain → Type 0
+abbrev Means : ℕ → Float → Float → Float → Float → Result Answer Refusal → Type 0
 Means number gain efficiency left height r =
     (gain_number r ≡ number) × (gain_value r ≡ gain) × (efficiency_value r ≡ efficiency) × (height_left r height ≡ left)
 
-means : (accepted : Bool) (refusal : ℕ) (w : Worked) (height : Float)
-    → Means (cond accepted (work_number w) refusal) (cond accepted (work_gain w) (num 0 1)) (cond accepted (work_efficiency w) (num 0 1))
-    (cond accepted (work_height w height) height) height (cond accepted (answered w) (Refused refusal))
-unfolding gain_number gain_value efficiency_value height_left
-means true refusal (W.Settled call) height = (refl, refl, refl, refl)
-means true refusal W.Unsettled height = (refl, refl, refl, refl)
-means false refusal w height = (refl, refl, refl, refl)
+-- of an accepted call the work's, of a refused one the refusal's
+worked : (w : Option Call) (height : Float) → Means (unsettled_number w) (work_gain w) (work_efficiency w) (work_height w height) height (answered w)
+unfolding unsettled_number gain_number gain_value efficiency_value height_left
+worked (Some call) height = (refl, refl, refl, refl)
+worked None height = (refl, refl, refl, refl)
 
-pub answers : (call : GainCall) (height : Float) (r : Gain) → r ≡ gain_of call height
-    → (r ≡ gain_of call height) × (gain_number r ≡ call_number call height) × (gain_value r ≡ call_gain call height)
+not_zero : (e : Refusal) → eqb (number_of e) 0 ≡ false
+not_zero e = ne_eqb (number_of e) 0 (λ z. omega (arith, z, number_positive e))
+
+abbrev Answers : GainCall → Float → Result Answer Refusal → Type 0
+Answers call height r =
+    (r ≡ gain_of call height) × (gain_number r ≡ call_number call height) × (gain_value r ≡ call_gain call height)
     × (efficiency_value r ≡ call_efficiency call height) × (height_left r height ≡ call_height call height)
-unfolding gain_of call_number call_gain call_efficiency call_height
-answers call height r e =
-    let refusal = call_refusal call height in
-    let m = subst (Means _ _ _ _ height) (sym e) (means (eqb refusal 0) refusal (call_work call height) height) in
-    (e, m.0, m.1, m.2, m.3)
+
+module _ (call : GainCall) (height : Float) {verdict : Result (Unit {0}) Refusal} (judged : IsJudged (call_refusal call height) verdict) where
+  pub refused_answers : {e : Refusal} (r : Result Answer Refusal) → verdict ≡ Err e → r ≡ Err e → Answers call height r
+  unfolding gain_of call_number call_gain call_efficiency call_height gain_number gain_value efficiency_value height_left
+  refused_answers {e} r v is = rw (is, refused judged v, not_zero e, refusal_of_number e) (refl, refl, refl, refl, refl)
+
+  pub worked_answers : {u : Unit {0}} (r : Result Answer Refusal) → verdict ≡ Ok u → r ≡ answered (call_work call height) → Answers call height r
+  unfolding gain_of call_number call_gain call_efficiency call_height
+  worked_answers r v is = let m = worked (call_work call height) height in rw (is, accepted judged v) (refl, m.0, m.1, m.2, m.3)
+
+-- what the work's number becomes: 11 of one that settles not
+pub worked_err : (w : Option Call) {e : Refusal} → ok_or w R.Unsettled ≡ Err e → Err e ≡ answered w
+worked_err (Some call) h = absurd (cc)
+worked_err None {e} h = let i : R.Unsettled ≡ e = cc in rw (← i)
+
+pub worked_ok : (w : Option Call) {call : Call} → ok_or w R.Unsettled ≡ Ok call → Ok (record { gain = call.gain; efficiency = call.efficiency; height = call.height }) ≡ answered w
+worked_ok (Some made) {call} h = let e : made ≡ call = cc in rw e
+worked_ok None h = absurd (cc)
 
 -- 0 exactly where none of the listed conditions holds
 pub zero_none_of_call : (call : GainCall) (height : Float) → (call_refusal call height ≡ 0) ↔ (any_holds (call_tests call height) ≡ false)

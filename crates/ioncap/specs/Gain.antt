@@ -1,5 +1,5 @@
 -- Document 01 section 6 and "Order": the gain call with its refusals, and what its answer means. Definitions only.
-use Rattle.std.specs.Prelude.{ℕ, Bool, not, ◌&&◌, ◌||◌, cond, List, [], ◌∷◌, eqb, Float}
+use Rattle.std.specs.Prelude.{ℕ, Bool, not, ◌&&◌, ◌||◌, cond, List, [], ◌∷◌, eqb, Float, Option, Some, None, Result, Ok, Err}
 use Rattle.std.specs.Float.Ieee.{le}
 use Rattle.single.specs.Single.{num}
 use Rattle.elementary.specs.Trigonometric.{sine, cosine}
@@ -7,12 +7,14 @@ use Rattle.angles.specs.Angles.{elevation_of}
 use Rattle.limits.specs.Refusals.{Test, first_refusal}
 use Rattle.limits.specs.Tests.{any_outside, height_test, input_tests}
 use Rattle.antennas.specs.Antenna.{antenna_of}
-use Rattle.gain_core.specs.Core.{work_of, work_number, work_gain, work_efficiency, work_height}
-use Rattle.gain_core.specs.declared.calls.Worked.{Worked}
-use Rattle.gain_core.specs.declared.calls.Worked.TheVariants as W
+use Rattle.gain_core.specs.Core.{work_of, work_gain, work_efficiency, work_height}
+use Rattle.gain_core.specs.declared.calls.Call.{Call}
+use Rattle.integrals.specs.Settled.{unsettled_number}
+use Rattle.refusals.specs.Refusals.{refusal_of, outcome_number}
+use Rattle.refusals.specs.declared.Refusal.{Refusal}
+use Rattle.refusals.specs.declared.Refusal.TheVariants as R
 use Rattle.ioncap.specs.declared.gain.GainCall.{GainCall}
-use Rattle.ioncap.specs.declared.gain.Gain.{Gain}
-use Rattle.ioncap.specs.declared.gain.Gain.TheVariants.{Accepted, Refused}
+use Rattle.ioncap.specs.declared.gain.Answer.{Answer}
 
 -- refusal 2: the azimuth, the nine parameter fields, the elevation and the MHz
 unfoldable pub call_outside : GainCall → Bool
@@ -34,42 +36,41 @@ unfolding first_refusal
 call_refusal call height = first_refusal (call_tests call height)
 
 -- the work on a call within the limits
-unfoldable pub call_work : GainCall → Float → Worked
+unfoldable pub call_work : GainCall → Float → Option Call
 call_work call height =
     work_of (antenna_of call.kop call.toaz call.params call.model) call.fmc call.delta
     (elevation_of (cosine call.delta) (sine call.delta)) height
 
 -- 11 arises in the work
-abbrev pub answered : Worked → Gain
-answered (W.Settled call) = Accepted (record { gain = call.gain; efficiency = call.efficiency; height = call.height })
-answered W.Unsettled = Refused 11
+abbrev pub answered : Option Call → Result Answer Refusal
+answered (Some call) = Ok (record { gain = call.gain; efficiency = call.efficiency; height = call.height })
+answered None = Err R.Unsettled
 
-unfoldable pub gain_of : GainCall → Float → Gain
+unfoldable pub gain_of : GainCall → Float → Result Answer Refusal
 gain_of call height =
     let refusal = call_refusal call height in
-    cond (eqb refusal 0) (answered (call_work call height)) (Refused refusal)
+    cond (eqb refusal 0) (answered (call_work call height)) (Err (refusal_of refusal))
 
 -- document 01's number, gain, efficiency and height left of an answer
-unfoldable pub gain_number : Gain → ℕ
-gain_number (Accepted answer) = 0
-gain_number (Refused refusal) = refusal
+unfoldable pub gain_number : Result Answer Refusal → ℕ
+gain_number answer = outcome_number answer
 
-unfoldable pub gain_value : Gain → Float
-gain_value (Accepted answer) = answer.gain
-gain_value (Refused refusal) = num 0 1
+unfoldable pub gain_value : Result Answer Refusal → Float
+gain_value (Ok answer) = answer.gain
+gain_value (Err refusal) = num 0 1
 
-unfoldable pub efficiency_value : Gain → Float
-efficiency_value (Accepted answer) = answer.efficiency
-efficiency_value (Refused refusal) = num 0 1
+unfoldable pub efficiency_value : Result Answer Refusal → Float
+efficiency_value (Ok answer) = answer.efficiency
+efficiency_value (Err refusal) = num 0 1
 
-unfoldable pub height_left : Gain → Float → Float
-height_left (Accepted answer) height = answer.height
-height_left (Refused refusal) height = height
+unfoldable pub height_left : Result Answer Refusal → Float → Float
+height_left (Ok answer) height = answer.height
+height_left (Err refusal) height = height
 
 -- what a call answers by these: the first refusal, else the work's own; a refused call answers zeros and keeps the height
 unfoldable pub call_number : GainCall → Float → ℕ
 call_number call height =
-    let refusal = call_refusal call height in cond (eqb refusal 0) (work_number (call_work call height)) refusal
+    let refusal = call_refusal call height in cond (eqb refusal 0) (unsettled_number (call_work call height)) refusal
 
 unfoldable pub call_gain : GainCall → Float → Float
 call_gain call height = cond (eqb (call_refusal call height) 0) (work_gain (call_work call height)) (num 0 1)

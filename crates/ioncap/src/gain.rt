@@ -1,12 +1,14 @@
 // The public gain call, by value.
 ghost use Rattle.std.specs.Prelude.{◌≡◌};
+ghost use Rattle.refusals.specs.Refusals.{IsJudged};
 ghost use Rattle.ioncap.specs.Gain.{call_outside, mhz_outside, call_refusal, gain_of};
 ghost use Rattle.ioncap.specs.Gain.{gain_number, gain_value, efficiency_value, height_left};
 ghost use Rattle.ioncap.specs.Gain.{call_number, call_gain, call_efficiency, call_height};
 
 use elementary::SineCosine;
-use gain_core::{Worked, work};
+use gain_core::work;
 use parameters::{IoncapParams, Model};
+use refusals::Refusal;
 
 // Elevation in radians, off-azimuth in degrees.
 #[derive(Clone, Copy)]
@@ -25,12 +27,6 @@ pub struct Answer {
     pub gain: f32,
     pub efficiency: f32,
     pub height: f32,
-}
-
-#[derive(Clone, Copy)]
-pub enum Gain {
-    Accepted(Answer),
-    Refused(u32),
 }
 
 // All that is handed in, used by the type or not.
@@ -59,31 +55,27 @@ fn call_outside(call: GainCall) -> bool
 fn mhz_outside(fmc: f32) -> bool
     ensures { result ≡ mhz_outside fmc }
 {
-    if 1.0 <= fmc { !(fmc <= 30.0) } else { true }
+    !(1.0 <= fmc) || !(fmc <= 30.0)
 }
 
-fn call_refusal(call: GainCall, height: f32) -> u32
-    ensures { result ≡ call_refusal call height }
+fn call_refusal(call: GainCall, height: f32) -> Result<(), Refusal>
+    ensures { IsJudged (call_refusal call height) result }
 {
     if !limits::is_finite(height) {
-        return 9;
+        return Err(Refusal::Height);
     }
-    let fmc = call.fmc;
     let outside = call_outside(call);
-    let mhz_outside = mhz_outside(fmc);
+    let mhz_outside = mhz_outside(call.fmc);
     let params = call.params;
     limits::input_refusal(call.kop, outside, params.asig, mhz_outside, params.and)
 }
 
-pub fn gain_of(call: GainCall, height: f32) -> Gain
+pub fn gain_of(call: GainCall, height: f32) -> Result<Answer, Refusal>
     ensures { (result ≡ gain_of call height)
         × (gain_number result ≡ call_number call height) × (gain_value result ≡ call_gain call height)
         × (efficiency_value result ≡ call_efficiency call height) × (height_left result height ≡ call_height call height) }
 {
-    let refusal = call_refusal(call, height);
-    if refusal != 0 {
-        return Gain::Refused(refusal);
-    }
+    call_refusal(call, height)?;
     let GainCall {
         kop,
         toaz,
@@ -95,10 +87,8 @@ pub fn gain_of(call: GainCall, height: f32) -> Gain
     let antenna = antennas::antenna_of(kop, toaz, params, model);
     let SineCosine { sine, cosine } = elementary::sin_cos(delta);
     let e = angles::elevation_of(cosine, sine);
-    let Worked::Settled(call) = work(antenna, fmc, delta, e, height) else {
-        return Gain::Refused(11);
-    };
-    Gain::Accepted(Answer {
+    let call = work(antenna, fmc, delta, e, height).ok_or(Refusal::Unsettled)?;
+    Ok(Answer {
         gain: call.gain,
         efficiency: call.efficiency,
         height: call.height,
@@ -106,11 +96,11 @@ pub fn gain_of(call: GainCall, height: f32) -> Gain
 }
 
 // A refusal keeps the height.
-pub fn height_left(answer: Gain, height: f32) -> f32
+pub fn height_left(answer: Result<Answer, Refusal>, height: f32) -> f32
     ensures { result ≡ height_left answer height }
 {
     match answer {
-        Gain::Accepted(answer) => answer.height,
-        Gain::Refused(_) => height,
+        Ok(answer) => answer.height,
+        Err(_) => height,
     }
 }

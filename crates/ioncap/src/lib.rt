@@ -1,4 +1,5 @@
+#![tactic(auto)]
 // The gain call with its refusals, by value.
 mod gain;
 
-pub use gain::{Answer, Gain, GainCall, gain_of, height_left};
+pub use gain::{Answer, GainCall, gain_of, height_left};

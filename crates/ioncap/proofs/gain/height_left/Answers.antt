@@ -1,11 +1,10 @@
-use lib.Ieee.{round, of_bits, neg}
 use Rattle.ioncap.specs.Gain.{height_left}
 use Rattle.ioncap.proofs.gain.height_left.Goals as goal
 
-pub returns-in-Accepted : goal.returns-in-Accepted
-unfolding height_left round of_bits neg
-returns-in-Accepted c = rw c.in-Accepted.is
+pub returns-in-Ok : goal.returns-in-Ok
+unfolding height_left
+returns-in-Ok c = rw c.in-Ok.is
 
-pub returns-in-Refused : goal.returns-in-Refused
-unfolding height_left round of_bits neg
-returns-in-Refused c = rw c.in-Refused.is
+pub returns-in-Err : goal.returns-in-Err
+unfolding height_left
+returns-in-Err c = rw c.in-Err.is

@@ -2,10 +2,10 @@ use lib.Ieee.{round, of_bits}
 use Rattle.ioncap.specs.Gain.{mhz_outside}
 use Rattle.ioncap.proofs.gain.mhz_outside.Goals as goal
 
-pub returns-then-fmc : goal.returns-then-fmc
+pub returns-then-not-fmc : goal.returns-then-not-fmc
 unfolding mhz_outside round of_bits
-returns-then-fmc c = rw c.if-fmc.true
+returns-then-not-fmc c = rw c.if-not-fmc.true
 
-pub returns-else-fmc : goal.returns-else-fmc
+pub returns-else-not-fmc : goal.returns-else-not-fmc
 unfolding mhz_outside round of_bits
-returns-else-fmc c = rw c.if-fmc.false
+returns-else-not-fmc c = rw c.if-not-fmc.false
