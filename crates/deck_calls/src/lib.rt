@@ -1,24 +1,14 @@
+#![tactic(auto)]
 // A card run on a deck through C, for the benchmark.
-ghost use Rattle.std.specs.Prelude.{◌≡◌, length};
+ghost use Rattle.std.specs.Prelude.{◌≡◌};
 ghost use Rattle.deck_calls.specs.Calls.{fields_of, fill_number, filled};
 
 use cards::Fields;
 use deck::Deck;
+use parameters::Model;
+use refusals::verdict_number;
 
 const SLOTS: usize = 20;
-
-fn slots_of(list: &[f32]) -> [f32; SLOTS]
-    requires { length list.now ≡ 20 }
-    ensures { result ≡ list.now }
-{
-    let mut slots = [0.0f32; SLOTS];
-    let mut i: usize = 0;
-    while i < SLOTS {
-        slots[i] = list[i];
-        i += 1;
-    }
-    slots
-}
 
 // The verdict, on a deck with this height and no cards yet. Without 20 slots it is 9 or 7.
 #[unsafe(no_mangle)]
@@ -35,23 +25,22 @@ pub extern "C" fn deck_fill(
     ensures value { result ≡ fill_number (fields_of kop first last toaz slots.now model) height table.old }
     ensures table_after { table.new ≡ filled (fields_of kop first last toaz slots.now model) height table.old }
 {
-    if slots.len() != SLOTS {
+    let Some(slots) = slots.as_array::<SLOTS>() else {
         table::clear_refused(table);
-        return limits::length_refusal(height);
-    }
+        return limits::length_refusal(height).number();
+    };
     let fields = Fields {
         kop,
         first,
         last,
         toaz,
-        slots: slots_of(slots),
-        model: parameters::model_of(model),
+        slots: *slots,
+        model: Model::from(model),
     };
     let empty = Deck {
         height,
         accepted: 0,
         refused: 0,
     };
-    let answer = deck::run_card(empty, fields, table);
-    answer.verdict
+    verdict_number(deck::run_card(empty, fields, table).verdict)
 }
