@@ -10,8 +10,9 @@ use Rattle.single.specs.Single.{num}
 use Rattle.antenna.specs.ByteTables.{table_of}
 use Rattle.inverted_cone.specs.InvertedCone.{cone_gain_number, cone_gain_value, invcon_number, invcon_value}
 use Rattle.antenna.specs.Lookups.{lookup_number, lookup_values, gain_lookup_number, gain_lookup_values}
-use Rattle.inverted_cone.specs.declared.cone.ConeGain.{ConeGain}
-use Rattle.antenna.specs.declared.lookups.Lookup.{Lookup}
+use Rattle.std.specs.Prelude.{Result}
+use Rattle.refusals.specs.declared.Refusal.{Refusal}
+use Rattle.antenna.specs.declared.rows.GainEfficiency.{GainEfficiency}
 use Rattle.capi.specs.Answer.{answer_length, answer_bytes, answered, numbered}
 use Rattle.capi.specs.Entries.{lookup_result, lookup_answer, cone_result, cone_answer}
 
@@ -30,7 +31,7 @@ module _ (table : List ℕ) (fmc delta : Float) (answer : List ℕ) where
   lookup_unwritten h = unwritten answer h _ _
 
   -- the number and the bytes by the answer's case
-  pub lookup_written : length answer ≡ answer_length → (r : Lookup) → (lookup_number r ≡ gain_lookup_number (table_of table) fmc delta) × (lookup_values r ≡ gain_lookup_values (table_of table) fmc delta)
+  pub lookup_written : length answer ≡ answer_length → (r : Result GainEfficiency Refusal) → (lookup_number r ≡ gain_lookup_number (table_of table) fmc delta) × (lookup_values r ≡ gain_lookup_values (table_of table) fmc delta)
       → (k : ℕ) (out : List ℕ) → k ≡ lookup_number r → out ≡ answer_bytes (lookup_values r).gain (lookup_values r).efficiency (num 0 1) → (k ≡ lookup_result table fmc delta answer) × (out ≡ lookup_answer table fmc delta answer)
   unfolding lookup_result lookup_answer
   lookup_written h r (n, w) k out e o = written answer h k _ out _ (e ∙ n) (rw w at o)
@@ -40,7 +41,7 @@ module _ (freq elev : Float) (answer : List ℕ) where
   unfolding cone_result cone_answer
   cone_unwritten h = unwritten answer h _ _
 
-  pub cone_written : length answer ≡ answer_length → (r : ConeGain) → (cone_gain_number r ≡ invcon_number freq elev) × (cone_gain_value r ≡ invcon_value freq elev)
+  pub cone_written : length answer ≡ answer_length → (r : Result Float Refusal) → (cone_gain_number r ≡ invcon_number freq elev) × (cone_gain_value r ≡ invcon_value freq elev)
       → (k : ℕ) (out : List ℕ) → k ≡ cone_gain_number r → out ≡ answer_bytes (cone_gain_value r) (num 0 1) (num 0 1) → (k ≡ cone_result freq elev answer) × (out ≡ cone_answer freq elev answer)
   unfolding cone_result cone_answer
   cone_written h r (n, w) k out e o = written answer h k _ out _ (e ∙ n) (rw w at o)

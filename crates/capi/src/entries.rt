@@ -3,8 +3,7 @@ ghost use Rattle.std.specs.Prelude.{◌≡◌};
 ghost use Rattle.capi.specs.Entries.{lookup_result, lookup_answer, cone_result, cone_answer};
 
 use crate::answers::{ANSWER_LENGTH, write_answer};
-use antenna::Lookup;
-use inverted_cone::ConeGain;
+use refusals::Refusal;
 
 // `gain_lookup` at fmc MHz and an elevation of delta radians, in a table of 11,040 bytes.
 #[unsafe(no_mangle)]
@@ -13,16 +12,16 @@ pub extern "C" fn ioncap_lookup(table: &[u8], fmc: f32, delta: f32, answer: &mut
     ensures answer_after { answer.new ≡ lookup_answer table.now fmc delta answer.old }
 {
     if answer.len() != ANSWER_LENGTH {
-        return 7;
+        return Refusal::Length.number();
     }
     match antenna::gain_lookup_in_bytes(table, fmc, delta) {
-        Lookup::Accepted(v) => {
+        Ok(v) => {
             write_answer(answer, v.gain, v.efficiency, 0.0);
             0
         }
-        Lookup::Refused(number) => {
+        Err(refusal) => {
             write_answer(answer, 0.0, 0.0, 0.0);
-            number
+            refusal.number()
         }
     }
 }
@@ -34,16 +33,16 @@ pub extern "C" fn ioncap_cone(freq: f32, elev_deg: f32, answer: &mut [u8]) -> u3
     ensures answer_after { answer.new ≡ cone_answer freq elev_deg answer.old }
 {
     if answer.len() != ANSWER_LENGTH {
-        return 7;
+        return Refusal::Length.number();
     }
     match inverted_cone::invcon(freq, elev_deg) {
-        ConeGain::Accepted(gain) => {
+        Ok(gain) => {
             write_answer(answer, gain, 0.0, 0.0);
             0
         }
-        ConeGain::Refused(number) => {
+        Err(refusal) => {
             write_answer(answer, 0.0, 0.0, 0.0);
-            number
+            refusal.number()
         }
     }
 }

@@ -3,8 +3,8 @@ ghost use Rattle.std.specs.Prelude.{◌≡◌};
 ghost use Rattle.capi.specs.Gain.{call_of, gain_result, gain_answer};
 
 use crate::answers::{ANSWER_LENGTH, write_answer};
-use ioncap::{Gain, GainCall};
-use parameters::IoncapParams;
+use ioncap::GainCall;
+use parameters::{IoncapParams, Model};
 
 // `iongain` at the carried height, with the parameters in `IoncapParams`' order.
 #[unsafe(no_mangle)]
@@ -30,7 +30,7 @@ pub extern "C" fn ioncap_gain(
     ensures answer_after { answer.new ≡ gain_answer (call_of kop toaz asig aeps and anl anh aex1 aex2 aex3 aex4 delta fmc model) height answer.old }
 {
     if answer.len() != ANSWER_LENGTH {
-        return limits::length_refusal(height);
+        return limits::length_refusal(height).number();
     }
     let aex = [aex1, aex2, aex3, aex4];
     let params = IoncapParams {
@@ -41,7 +41,7 @@ pub extern "C" fn ioncap_gain(
         anh,
         aex,
     };
-    let model = parameters::model_of(model);
+    let model = Model::from(model);
     let call = GainCall {
         kop,
         toaz,
@@ -51,13 +51,13 @@ pub extern "C" fn ioncap_gain(
         model,
     };
     match ioncap::gain_of(call, height) {
-        Gain::Accepted(v) => {
+        Ok(v) => {
             write_answer(answer, v.gain, v.efficiency, v.height);
             0
         }
-        Gain::Refused(number) => {
+        Err(refusal) => {
             write_answer(answer, 0.0, 0.0, height);
-            number
+            refusal.number()
         }
     }
 }

@@ -1,3 +1,4 @@
+#![tactic(auto)]
 // What a Rust host calls through C: document 01 section 9. A slice is a pointer, then a length.
 mod answers;
 mod entries;

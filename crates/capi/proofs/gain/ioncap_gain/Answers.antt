@@ -1,5 +1,5 @@
 use Prim.Native.Nat.{ℕ}
-use mathlib.Core.Path.{◌≡◌}
+use mathlib.Core.Path.{◌≡◌, ◌∙◌}
 use mathlib.Core.List.{List}
 use borrow.Author.Rules.{rules}
 use lib.Ieee.{round, of_bits}
@@ -14,7 +14,7 @@ use Rattle.capi.proofs.gain.ioncap_gain.Goals.{After-gain_of}
 
 pub returns-then-answer-ne-ANSWER_LENGTH : goal.returns-then-answer-ne-ANSWER_LENGTH
 returns-then-answer-ne-ANSWER_LENGTH c =
-    let r = gain_unwritten _ _ _ c.if-answer-ne-ANSWER_LENGTH.true _ c.length_refusal.ensures in
+    let r = gain_unwritten _ _ _ c.if-answer-ne-ANSWER_LENGTH.true _ (c.number.ensures ∙ c.length_refusal.ensures) in
     record { value = r.0; answer_after = r.1 }
 
 -- both cases write the answer's number and values
@@ -27,18 +27,18 @@ written c =
     let kop = to_z-of_z w32 a.kop (search rules) in
     let model = to_z-of_z w32 a.model (search rules) in
     gain_written _ a.height a.answer.now c.if-answer-ne-ANSWER_LENGTH.false c.gain_of.result
-    (handed _ _ _ _ _ _ _ _ _ _ _ kop model c.model_of-model.ensures c.gain_of.ensures.0)
+    (handed _ _ _ _ _ _ _ _ _ _ _ kop model c.from-model.ensures (c.gain_of.ensures.0, c.gain_of.ensures.1))
 
-pub returns-in-Accepted : goal.returns-in-Accepted
+pub returns-in-Ok : goal.returns-in-Ok
 unfolding gain_number gain_value efficiency_value height_left round of_bits
-returns-in-Accepted c =
-    let case = c.in-Accepted.is in
-    let r = written (goal.at.returns-in-Accepted c).After-gain_of _ _ (rw case) (rw case c.write_answer.ensures) in
+returns-in-Ok c =
+    let case = c.in-Ok.is in
+    let r = written (goal.at.returns-in-Ok c).After-gain_of _ _ (rw case) (rw case c.write_answer.ensures) in
     record { value = r.0; answer_after = r.1 }
 
-pub returns-in-Refused : goal.returns-in-Refused
+pub returns-in-Err : goal.returns-in-Err
 unfolding gain_number gain_value efficiency_value height_left round of_bits
-returns-in-Refused c =
-    let case = c.in-Refused.is in
-    let r = written (goal.at.returns-in-Refused c).After-gain_of _ _ (rw case) (rw case c.write_answer-in-Refused.ensures) in
+returns-in-Err c =
+    let case = c.in-Err.is in
+    let r = written (goal.at.returns-in-Err c).After-gain_of _ _ (rw case c.number-in-Err.ensures) (rw case c.write_answer-in-Err.ensures) in
     record { value = r.0; answer_after = r.1 }
