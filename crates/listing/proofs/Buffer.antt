@@ -1,5 +1,5 @@
 -- Laws of text appended to a buffer, and the lengths of the printed lines. Assumes nothing.
-use mathlib.Core.Path.{◌≡◌, sym, ap, subst, ◌∙◌}
+use mathlib.Core.Path.{◌≡◌, refl, sym, ap, subst, ◌∙◌}
 use mathlib.Core.List.{List, [], ◌∷◌, ◌++◌, append_assoc}
 use Prim.Native.Nat.{ℕ, ◌+◌, ◌-◌, ◌≤◌}
 use native.Mathlib.Omega.{arith}
@@ -7,7 +7,9 @@ use native.Mathlib.Numerals.{add-one}
 use lib.ListN.{length, take, drop, set, length-append, length-drop, take-append-drop}
 use lib.Seq.{drop-drop, take_at, drop_at, length-take-le, set_split}
 use borrow.Rule.Slice.PartMut.{put_mid}
+use Rattle.listing.specs.declared.writing.Writer.{Writer}
 use Rattle.listing.specs.Appended.{Appended, overwritten}
+use Rattle.listing.specs.Written.{HasRoom, Written}
 
 -- ---- the buffer
 module _ {d : List ℕ} {a : ℕ} {t e : List ℕ} {b : ℕ} (x : Appended d a t e b) where
@@ -85,3 +87,18 @@ field text d x a w l h e =
       is = ap (λ (z : List ℕ). take a d ++ (z ++ drop (a + w - a) (drop a d))) y ∙ ap (λ (z : List ℕ). take a d ++ (text w ++ z)) (drop-drop (a + w - a) a d ∙ ap (λ (z : ℕ). drop z d) (let q : a + (a + w - a) ≡ a + length (text w) = omega arith in q));
       end = omega arith;
     }
+
+-- ---- by a writer
+module _ {w : Writer} {t : List ℕ} {w' : Writer} (x : Written w t w') where
+  -- room for m more bytes, of n
+  pub space : {k n : ℕ} (m : ℕ) → length t ≡ k → HasRoom w n → k + m ≤ n → HasRoom w' m
+  space m l h g = room x.text m l h g
+
+  pub after : {u : List ℕ} {w'' : Writer} → Written w' u w'' → Written w (t ++ u) w''
+  after y = record { same_buffer = y.same_buffer ∙ x.same_buffer; text = then x.text y.text }
+
+  pub renamed : {u : List ℕ} → t ≡ u → Written w u w'
+  renamed p = record { same_buffer = x.same_buffer; text = same x.text p }
+
+pub no_text : (w : Writer) → w.at ≤ length w.out.now → Written w [] w
+no_text w h = record { same_buffer = refl; text = nothing w.out.now w.at h }

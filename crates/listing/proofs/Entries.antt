@@ -1,12 +1,12 @@
 -- A line on the deck: what its table held before doesn't matter, and an accepted line is a card that is not refused. Assumes nothing.
 use mathlib.Core.Path.{◌≡◌, refl, sym, ap, ◌∙◌}
-use mathlib.Core.Bool.{Bool, true, false, not, cond}
+use mathlib.Core.Bool.{Bool, true, false, not}
 use mathlib.Core.List.{List, [], ◌∷◌}
 use Prim.Native.Nat.{ℕ, zero, suc, ◌+◌, ◌-◌, ◌≤◌}
 use native.Mathlib.Omega.{arith}
 use borrow.Author.Tests.{eq-eqb}
 use lib.ListN.{length}
-use lib.IntN.{ℤ, pos, nat_abs}
+use lib.IntN.{ℤ, nat_abs}
 use lib.Ieee.{Float}
 use mir.Syntax.{w32}
 use mir.Val.{to_z, of_z}
@@ -16,18 +16,25 @@ use Rattle.table.specs.Table.{cleared, is_table, refused_table}
 use Rattle.independence.specs.Deck.{Deck, Line, card, malformed, Entry, count_test, line_tests, verdict_on, table_by, deck_by, outcome_on, deck_after}
 use Rattle.independence.specs.EntryContracts.{EntryDone}
 use Rattle.independence.proofs.Rows.{cleared_length}
-use Rattle.independence.proofs.Verdicts.{accepted_passes, malformed_refused}
+use Rattle.independence.proofs.Verdicts.{accepted_passes}
 use Rattle.cards.specs.Card.{card_of}
 use Rattle.deck.specs.Antenna.{the_antenna}
 use Rattle.deck.specs.Run.{count_limit}
 use Rattle.deck.proofs.Laws.{the_laws}
 use Rattle.deck.proofs.CardRows.{Rows, rows_of}
-use Rattle.card_line.specs.declared.line.Line as L
-use Rattle.listing.specs.Appended.{Appended}
+use Rattle.cards.specs.declared.fields.Fields.{Fields}
+use Rattle.cards.specs.Fields.{fields_refusal}
+use Rattle.std.proofs.Common.{Option, Some, None, Result, Ok, Err}
+use Rattle.std.specs.Result.{is_ok}
+use Rattle.refusals.specs.declared.Refusal.{Refusal}
+use Rattle.refusals.specs.Refusals.{outcome_number}
+use Rattle.refusals.proofs.Refusals.{number_positive}
+use Rattle.listing.specs.declared.writing.Writer.{Writer}
+use Rattle.listing.specs.Written.{Written}
 use Rattle.listing.specs.Text.{rows_text}
-use Rattle.listing.specs.Listing.{line_in, type_of, rows_by}
-use Rattle.listing.specs.Card.{LineRun, AcceptedLine}
-use Rattle.listing.proofs.Buffer.{same, nothing}
+use Rattle.listing.specs.Listing.{line_in, card_rows, rows_by}
+use Rattle.listing.specs.Card.{LineRun}
+use Rattle.listing.proofs.Buffer.{renamed, no_text}
 
 -- ---- a table of 2,760 numbers is as good as any other
 is_table_lem : (t : List Float) → length t ≡ 2760 → is_table t ≡ true
@@ -67,45 +74,52 @@ module _ (d : Deck) (l : Line the_antenna) (t : List Float) (h : length t ≡ 27
       }
 
 -- ---- a line as it was read
-pub line_run : (d : Deck) (l : L.Line) (b : Bool) (t t' : List Float) (v : ℕ) (d' : Deck) → length t ≡ 2760 → l.well_formed ≡ b → EntryDone the_antenna count_limit d (record { line = cond b (card l.fields) malformed; table = t }) t' v d' → LineRun d l t' v d'
-line_run d l b t t' v d' h e x = rw e (entry_same d (cond b (card l.fields) malformed) t h t' v d' x)
+pub line_run : (d : Deck) (l : Option Fields) (x : Line the_antenna) (t t' : List Float) (v : ℕ) (d' : Deck) → length t ≡ 2760 → line_in l ≡ x → EntryDone the_antenna count_limit d (record { line = x; table = t }) t' v d' → LineRun d l t' v d'
+line_run d l y t t' v d' h e x = rw e (entry_same d y t h t' v d' x)
 
-pub accepted : (d : Deck) (l : L.Line) (t' : List Float) (v : ℕ) (d' : Deck) → LineRun d l t' v d' → v ≡ 0 → AcceptedLine l
+pub accepted : (d : Deck) (l : Option Fields) (f : Fields) (t' : List Float) (v : ℕ) (d' : Deck) → LineRun d l t' v d' → l ≡ Some f → v ≡ 0 → fields_refusal f ≡ 0
 unfolding outcome_on
-accepted d l t' v d' x z = go l.well_formed refl (sym x.verdict ∙ z)
-  where
-    go : (b : Bool) → l.well_formed ≡ b → verdict_on the_antenna count_limit d (record { line = cond b (card l.fields) malformed; table = cleared }) ≡ 0 → AcceptedLine l
-    go true e p = record { formed = e; passes = (accepted_passes the_antenna the_laws count_limit d l.fields cleared p).input }
-    go false e p = absurd (malformed_refused the_antenna the_laws count_limit d cleared p)
+accepted d l f t' v d' x e z =
+    let y : LineRun d (Some f) t' v d' = (rw e at x) in
+    (accepted_passes the_antenna the_laws count_limit d f cleared (sym y.verdict ∙ z)).input
+
+-- ---- a verdict and its number
+pub accepted_number : (r : Result Unit Refusal) → is_ok r ≡ true → outcome_number r ≡ 0
+accepted_number (Ok u) e = refl
+accepted_number (Err x) e = absurd (cc)
+
+pub refused_number : (r : Result Unit Refusal) → is_ok r ≡ false → outcome_number r ≡ 0 → ⊥
+refused_number (Ok u) e z = cc
+refused_number (Err x) e z = omega (arith, number_positive x)
 
 -- ---- what is printed of a line
-pub type_formed : (l : L.Line) (k : ℤ) → l.well_formed ≡ true → k ≡ l.fields.kop → k ≡ type_of (line_in l)
-type_formed l k e p = rw e p
+refused_none : (x : Line the_antenna) (t : List Float) (v : ℕ) → (v ≡ 0 → ⊥) → rows_by x t v ≡ []
+refused_none (card f) t zero n = absurd (n refl)
+refused_none (card f) t (suc v) n = refl
+refused_none malformed t v n = refl
 
-pub type_malformed : (l : L.Line) → l.well_formed ≡ false → pos 0 ≡ type_of (line_in l)
-type_malformed l e = rw e refl
+pub refused_rows : (l : Option Fields) (t : List Float) (v : ℕ) (w : Writer) → (v ≡ 0 → ⊥) → w.at ≤ length w.out.now → Written w (rows_by (line_in l) t v) w
+refused_rows l t v w n h = renamed (no_text w h) (sym (refused_none (line_in l) t v n))
 
-none_by : (x : Line the_antenna) (t : List Float) (v : ℕ) → (v ≡ 0 → ⊥) → rows_by x t v ≡ []
-none_by (card f) t zero n = absurd (n refl)
-none_by (card f) t (suc v) n = refl
-none_by malformed t v n = refl
+pub malformed_rows : (l : Option Fields) (t : List Float) (v : ℕ) (w : Writer) → l ≡ None → w.at ≤ length w.out.now → Written w (rows_by (line_in l) t v) w
+malformed_rows l t v w e h = rw e (no_text w h)
 
-pub refused_rows : (l : L.Line) (t : List Float) (v : ℕ) (d : List ℕ) (a : ℕ) → (v ≡ 0 → ⊥) → a ≤ length d → Appended d a (rows_by (line_in l) t v) d a
-refused_rows l t v d a n h = same (nothing d a h) (sym (none_by (line_in l) t v n))
+pub accepted_by : (f : Fields) (l : Option Fields) (t : List Float) (v : ℕ) (w w' : Writer) → l ≡ Some f → v ≡ 0 → Written w (card_rows f t) w' → Written w (rows_by (line_in l) t v) w'
+accepted_by f l t v w w' e z x = rw (e, z) x
 
-abbrev back : ℤ → ℕ
+abbrev pub back : ℤ → ℕ
 back z = nat_abs (to_z w32 (of_z w32 z))
 
-pub card_rows : (l : L.Line) → AcceptedLine l → Rows (card_of l.fields) l.fields
-card_rows l x = rows_of (card_of l.fields) l.fields refl x.passes
+pub rows_in : (f : Fields) → fields_refusal f ≡ 0 → Rows (card_of f) f
+rows_in f p = rows_of (card_of f) f refl p
 
-pub accepted_rows : (l : L.Line) (t : List Float) (v : ℕ) (d e : List ℕ) (a b : ℕ) → AcceptedLine l → v ≡ 0
-    → Appended d a (rows_text t (back l.fields.first) (back l.fields.last - back l.fields.first + 1)) e b → Appended d a (rows_by (line_in l) t v) e b
+pub accepted_rows : (f : Fields) (t : List Float) (w w' : Writer) → fields_refusal f ≡ 0
+    → Written w (rows_text t (back f.first) (back f.last - back f.first + 1)) w' → Written w (card_rows f t) w'
 unfolding card_of
-accepted_rows l t v d e a b x z y =
-    let r = card_rows l x in
-    let first : back l.fields.first ≡ nat_abs l.fields.first = r.first in
-    let last : back l.fields.last ≡ nat_abs l.fields.last = r.last in
-    let order : back l.fields.first ≤ back l.fields.last = r.order in
-    let n : back l.fields.last - back l.fields.first + 1 ≡ suc (nat_abs l.fields.last) - nat_abs l.fields.first = omega arith in
-    rw (x.formed, z) (same y (ap (λ (m : ℕ). rows_text t m (back l.fields.last - back l.fields.first + 1)) first ∙ ap (rows_text t (nat_abs l.fields.first)) n))
+accepted_rows f t w w' p y =
+    let r = rows_in f p in
+    let first : back f.first ≡ nat_abs f.first = r.first in
+    let last : back f.last ≡ nat_abs f.last = r.last in
+    let order : back f.first ≤ back f.last = r.order in
+    let n : back f.last - back f.first + 1 ≡ suc (nat_abs f.last) - nat_abs f.first = omega arith in
+    renamed y (ap (λ (m : ℕ). rows_text t m (back f.last - back f.first + 1)) first ∙ ap (rows_text t (nat_abs f.first)) n)

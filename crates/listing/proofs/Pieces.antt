@@ -1,6 +1,5 @@
 -- A line is gathered from pieces: the buffer, and the loop over a piece. Assumes nothing.
 use mathlib.Core.Path.{◌≡◌, refl, sym, ap, ◌∙◌}
-use mathlib.Core.Bool.{true, false}
 use mathlib.Core.List.{List, [], ◌∷◌}
 use Prim.Native.Nat.{ℕ, suc, ◌+◌, ◌-◌, ◌≤◌, ◌<◌}
 use native.Mathlib.Omega.{arith}
@@ -8,6 +7,7 @@ use native.Mathlib.Numerals.{add-one}
 use borrow.Author.Tests.{eq-eqb, ne_eqb, lt-ltb, le-ltb}
 use lib.ListN.{length, take, drop, set, get_or}
 use lib.Seq.{drop-cons, drop-drop, drop-length, length-take-le, take-suc-set, drop-set-lt}
+use Rattle.std.proofs.Common.{Some, None}
 use Rattle.listing.specs.Session.{grown, gathered}
 use Rattle.listing.specs.Gathering.{GatherDone}
 
@@ -42,7 +42,7 @@ module _ (held : ℕ) (before piece line : List ℕ) (len i : ℕ) (g : Gatherin
   next : i < length piece → gathered (take held before) piece ≡ gathered (take len line) (get_or piece i 0 ∷ drop (suc i) piece)
   next h = g.result ∙ ap (gathered (take len line)) (drop-cons piece i 0 h)
 
-  pub gather_feed : i < length piece → get_or piece i 0 ≡ 10 → GatherDone held before piece line (record { whole = true; held = len; used = i + 1 })
+  pub gather_feed : i < length piece → get_or piece i 0 ≡ 10 → GatherDone held before piece line (record { held = len; end = Some (i + 1) })
   unfolding gathered
   gather_feed h e =
       rw (add-one i) (record { result = next h ∙ rw (eq-eqb (get_or piece i 0) 10 e) refl; low = g.low; within = h; kept = g.kept })
@@ -62,10 +62,11 @@ module _ (held : ℕ) (before piece line : List ℕ) (len i : ℕ) (g : Gatherin
         long = l ∙ g.long;
       })
 
-  pub gather_end : length piece ≤ i → GatherDone held before piece line (record { whole = false; held = len; used = i })
+  pub gather_end : length piece ≤ i → GatherDone held before piece line (record { held = len; end = None })
   unfolding gathered
   gather_end h =
       let w : i ≤ length piece = g.within in
       let e : i ≡ length piece = omega arith in
       let z : drop i piece ≡ [] = ap (λ (k : ℕ). drop k piece) e ∙ drop-length piece in
-      record { result = g.result ∙ rw z refl; low = g.low; within = w; kept = g.kept }
+      let y : drop (length piece) piece ≡ [] = drop-length piece in
+      record { result = g.result ∙ rw (z, y) refl; low = g.low; within = omega arith; kept = g.kept }

@@ -1,9 +1,8 @@
 -- The printed lines: their lengths, and their writing. Assumes nothing.
 use mathlib.Core.Path.{◌≡◌, refl, sym, ap, subst}
-use mathlib.Core.List.{List, [], ◌++◌}
+use mathlib.Core.List.{List, ◌++◌}
 use Prim.Native.Nat.{ℕ, zero, suc, ◌+◌, ◌-◌, ◌*◌, ◌^◌, ◌≤◌, ◌<◌}
 use native.Mathlib.Omega.{arith}
-use native.Mathlib.Numerals.{add-one}
 use native.Mathlib.Nat.{lt_of_lt_of_le}
 use lib.Dec.{lit≤}
 use mir.Syntax.{w32, w64}
@@ -17,9 +16,10 @@ use Rattle.output.specs.Field.{integer_field}
 use Rattle.output.specs.Hundredths.{hundredths_field}
 use Rattle.output.proofs.Field.{field_length}
 use Rattle.output.proofs.Printed.{hundredths_field_length}
-use Rattle.listing.specs.Appended.{Appended}
+use Rattle.listing.specs.declared.writing.Writer.{Writer}
+use Rattle.listing.specs.Written.{HasRoom, Written}
 use Rattle.listing.specs.Text.{line_feed, heading_text, row_text, rows_text}
-use Rattle.listing.proofs.Buffer.{then, same, long}
+use Rattle.listing.proofs.Buffer.{after, renamed, space, no_text}
 
 -- ---- an integer as it is handed on
 wider : (z : ℤ) → SFits w32 z → SFits w64 z
@@ -28,21 +28,21 @@ wider z f = record { sfits = lt_of_lt_of_le f.sfits (lit≤ tt) }
 pub fits32 : (z : ℤ) → SFits w32 z → SFits w64 (to_z w32 (of_z w32 z))
 fits32 z f = subst (λ (y : ℤ). SFits w64 y) (sym (to_z-of_z w32 z f)) (wider z f)
 
-module _ {d : List ℕ} {a : ℕ} {e : List ℕ} {b : ℕ} where
-  pub handed : (z : ℤ) (w : ℕ) → SFits w64 z → Appended d a (integer_field (to_z w64 (of_z w64 z)) w) e b → Appended d a (integer_field z w) e b
-  handed z w f x = same x (ap (λ (y : ℤ). integer_field y w) (to_z-of_z w64 z f))
+module _ {w w' : Writer} where
+  pub handed : (z : ℤ) (n : ℕ) → SFits w64 z → Written w (integer_field (to_z w64 (of_z w64 z)) n) w' → Written w (integer_field z n) w'
+  handed z n f x = renamed x (ap (λ (y : ℤ). integer_field y n) (to_z-of_z w64 z f))
 
-  pub unsigned : (n w : ℕ) → n < 2 ^ 63 → Appended d a (integer_field (to_z w64 n) w) e b → Appended d a (integer_field (pos n) w) e b
-  unsigned n w f x = same x (ap (λ (z : ℤ). integer_field z w) (to_z_pos w64 n f))
+  pub unsigned : (k n : ℕ) → k < 2 ^ 63 → Written w (integer_field (to_z w64 k) n) w' → Written w (integer_field (pos k) n) w'
+  unsigned k n f x = renamed x (ap (λ (z : ℤ). integer_field z n) (to_z_pos w64 k f))
 
-  pub signed : (z : ℤ) (w : ℕ) → SFits w32 z → Appended d a (integer_field (to_z w64 (of_z w64 (to_z w32 (of_z w32 z)))) w) e b → Appended d a (integer_field z w) e b
-  signed z w f x = handed z w (wider z f) (same x (ap (λ (y : ℤ). integer_field (to_z w64 (of_z w64 y)) w) (to_z-of_z w32 z f)))
+  pub signed : (z : ℤ) (n : ℕ) → SFits w32 z → Written w (integer_field (to_z w64 (of_z w64 (to_z w32 (of_z w32 z)))) n) w' → Written w (integer_field z n) w'
+  signed z n f x = handed z n (wider z f) (renamed x (ap (λ (y : ℤ). integer_field (to_z w64 (of_z w64 y)) n) (to_z-of_z w32 z f)))
 
   -- a row as the code reads it out of the table
   pub row : (t : List Float) (m : ℕ)
-      → Appended d a (integer_field (pos m) 3 ++ hundredths_field (get_or t (efficiency_at m) nan) 7 ++ hundredths_field (get_or t ((m - 1) * 91) nan) 7 ++ line_feed) e b → Appended d a (row_text t m) e b
+      → Written w (integer_field (pos m) 3 ++ hundredths_field (get_or t (efficiency_at m) nan) 7 ++ hundredths_field (get_or t ((m - 1) * 91) nan) 7 ++ line_feed) w' → Written w (row_text t m) w'
   unfolding row_text
-  row t m x = same x (ap (λ (k : ℕ). integer_field (pos m) 3 ++ hundredths_field (get_or t (efficiency_at m) nan) 7 ++ hundredths_field (get_or t k nan) 7 ++ line_feed) (let q : (m - 1) * 91 ≡ gain_at m 0 = omega arith in q))
+  row t m x = renamed x (ap (λ (k : ℕ). integer_field (pos m) 3 ++ hundredths_field (get_or t (efficiency_at m) nan) 7 ++ hundredths_field (get_or t k nan) 7 ++ line_feed) (let q : (m - 1) * 91 ≡ gain_at m 0 = omega arith in q))
 
 -- ---- lengths
 pub heading_length : (place : ℕ) (kop : ℤ) (refusal : ℕ) → length (heading_text place kop refusal) ≡ 14
@@ -66,21 +66,23 @@ unfolding rows_text
 rows_length t first zero = refl
 rows_length t first (suc n) = omega (arith, rows_length t first n, length-append (rows_text t first n) (row_text t (first + n)), row_length t (first + n))
 
--- ---- the rows in turn: n of k are written
-pub record Rows (t : List Float) (first k a : ℕ) (d e : List ℕ) (b n : ℕ) : Type 0 where
-  pub low : n ≤ k
-  pub text : Appended d a (rows_text t first n) e b
+-- ---- the rows in turn, up to m MHz
+pub record Rows (t : List Float) (first : ℕ) (w w' : Writer) (m : ℕ) : Type 0 where
+  pub text : Written w (rows_text t first (m - first)) w'
 
-pub rows_start : {t : List Float} {first k a : ℕ} {d : List ℕ} → Appended d a [] d a → Rows t first k a d d a 0
+pub rows_start : (t : List Float) (first : ℕ) (w : Writer) → w.at ≤ length w.out.now → Rows t first w w first
 unfolding rows_text
-rows_start x = record { low = omega arith; text = x }
+rows_start t first w h = record { text = let e : first - first ≡ 0 = omega arith in rw e (no_text w h) }
 
-pub rows_room : {t : List Float} {first k a : ℕ} {d e : List ℕ} {b n : ℕ} → Rows t first k a d e b n → n < k → first + k ≤ 31 → 1 ≤ first → a + 540 ≤ length d → b + 18 ≤ length e
-rows_room {t} {first} {k} {a} {d} {e} {b} {n} r h l f g = omega (arith, r.text.end, long r.text, rows_length t first n)
+pub rows_room : {t : List Float} {first : ℕ} {w w' : Writer} {m : ℕ} → Rows t first w w' m → m < 31 → 1 ≤ first → HasRoom w 540 → HasRoom w' 18
+rows_room {t} {first} {w} {w'} {m} r h f g = space r.text 18 (rows_length t first (m - first)) g (omega arith)
 
-pub rows_step : {t : List Float} {first k a : ℕ} {d e g : List ℕ} {b c n : ℕ} → Rows t first k a d e b n → n < k → Appended e b (row_text t (first + n)) g c → Rows t first k a d g c (n + 1)
+pub rows_step : {t : List Float} {first : ℕ} {w w' w'' : Writer} {m : ℕ} → first ≤ m → Rows t first w w' m → Written w' (row_text t m) w'' → Rows t first w w'' (m + 1)
 unfolding rows_text
-rows_step {n = n} r h x = rw (add-one n) (record { low = h; text = then r.text x })
+rows_step {t} {first} {m = m} h r x =
+    let e : m + 1 - first ≡ suc (m - first) = omega arith in
+    let i : m ≡ first + (m - first) = omega arith in
+    record { text = rw e (after r.text (renamed x (ap (row_text t) i))) }
 
-pub rows_end : {t : List Float} {first k a : ℕ} {d e : List ℕ} {b n : ℕ} → Rows t first k a d e b n → k ≤ n → Appended d a (rows_text t first k) e b
-rows_end {k = k} {n = n} r h = let l : n ≤ k = r.low in let q : n ≡ k = omega arith in rw q at r.text
+pub rows_end : {t : List Float} {first : ℕ} (k : ℕ) {w w' : Writer} {m : ℕ} → Rows t first w w' m → m ≡ first + k → Written w (rows_text t first k) w'
+rows_end {t} {first} k {m = m} r e = let q : m - first ≡ k = omega arith in renamed r.text (ap (rows_text t first) q)

@@ -1,6 +1,6 @@
 -- When the buffers of a call are ready. Assumes nothing.
 use mathlib.Core.Path.{◌≡◌, refl, sym, ◌∙◌}
-use mathlib.Core.Bool.{Bool, true, false, not, ◌&&◌, and-false}
+use mathlib.Core.Bool.{Bool, true, false, ◌&&◌, and-false}
 use mathlib.Core.List.{List}
 use Prim.Native.Nat.{ℕ, ◌+◌, ◌-◌, ◌≤◌, ◌<◌}
 use native.Mathlib.Omega.{arith}
@@ -14,16 +14,14 @@ use Rattle.listing.specs.Ready.{Ready}
 use Rattle.listing.specs.Session.{is_ready}
 
 module _ (line : List ℕ) (table : List Float) (out : List ℕ) (at : ℕ) where
-  pub short_line : (length line ≡ 120 → ⊥) → false ≡ is_ready line table out at
-  unfolding is_ready
+  -- the first two tests, by their cases
+  pub long_line : (b : Bool) → length line ≡ 120 → b ≡ is_table table → b ≡ (eqb (length line) 120 && is_table table)
+  long_line b h e = rw (eq-eqb (length line) 120 h) e
+
+  pub short_line : (length line ≡ 120 → ⊥) → eqb (length line) 120 ≡ (eqb (length line) 120 && is_table table)
   short_line n = rw (ne_eqb (length line) 120 n) refl
 
-  pub no_table : (b : Bool) → b ≡ is_table table → not b ≡ true → false ≡ is_ready line table out at
-  unfolding is_ready
-  no_table true p e = absurd (let w : ◌≡◌ {A = ℕ} 0 1 = cc in omega arith)
-  no_table false p e = rw (← p, and-false (eqb (length line) 120)) refl
-
-  pub no_room : length out < 569 → false ≡ is_ready line table out at
+  no_room : length out < 569 → false ≡ is_ready line table out at
   unfolding is_ready
   no_room h = rw (lt-leb (at + 569) (length out) (omega arith), and-false (eqb (length line) 120 && is_table table)) refl
 
@@ -31,10 +29,22 @@ module _ (line : List ℕ) (table : List Float) (out : List ℕ) (at : ℕ) wher
   same_test true e h = let l : at ≤ length out - 569 = leb-true at (length out - 569) e in sym (le-leb (at + 569) (length out) (omega arith))
   same_test false e h = let l : length out - 569 < at = leb-false at (length out - 569) e in sym (lt-leb (at + 569) (length out) (omega arith))
 
-  pub room_left : (b : Bool) → length line ≡ 120 → b ≡ is_table table → not b ≡ false → 569 ≤ length out → leb at (length out - 569) ≡ is_ready line table out at
-  unfolding is_ready
-  room_left true l p e h = rw (eq-eqb (length line) 120 l, ← p) (same_test (leb at (length out - 569)) refl h)
-  room_left false l p e h = absurd (let w : ◌≡◌ {A = ℕ} 0 1 = cc in omega arith)
+  -- v: those two tests; u: those and that the buffer is not too short
+  module _ (v u : Bool) (p : v ≡ (eqb (length line) 120 && is_table table)) (q : u ≡ (v && leb 569 (length out))) where
+    pub room_left : u ≡ true → leb at (length out - 569) ≡ is_ready line table out at
+    unfolding is_ready
+    room_left e =
+        let w : (v && leb 569 (length out)) ≡ true = sym q ∙ e in
+        rw (← p, and_left v (leb 569 (length out)) w)
+        (same_test (leb at (length out - 569)) refl (leb-true 569 (length out) (and_right v (leb 569 (length out)) w)))
+
+    pub not_ready : u ≡ false → u ≡ is_ready line table out at
+    unfolding is_ready
+    not_ready e = go v refl
+      where
+        go : (b : Bool) → v ≡ b → u ≡ is_ready line table out at
+        go true h = e ∙ no_room (leb-false 569 (length out) (rw h at (sym q ∙ e)))
+        go false h = rw (← p, h) e
 
   pub ready : is_ready line table out at ≡ true → Ready line table out at
   unfolding is_ready is_table
@@ -47,16 +57,8 @@ module _ (line : List ℕ) (table : List Float) (out : List ℕ) (at : ℕ) wher
       }
 
 -- as a test of the code tells it
-pub true_of : (b : Bool) → not b ≡ false → b ≡ true
-true_of true e = refl
-true_of false e = absurd (let w : ◌≡◌ {A = ℕ} 0 1 = cc in omega arith)
-
-pub false_of : (b : Bool) → not b ≡ true → b ≡ false
-false_of true e = absurd (let w : ◌≡◌ {A = ℕ} 0 1 = cc in omega arith)
-false_of false e = refl
-
-pub tested : (line : List ℕ) (table : List Float) (out : List ℕ) (at : ℕ) (b : Bool) → b ≡ is_ready line table out at → not b ≡ false → Ready line table out at
-tested line table out at b is e = ready line table out at (sym is ∙ true_of b e)
+pub tested : (line : List ℕ) (table : List Float) (out : List ℕ) (at : ℕ) (b : Bool) → b ≡ is_ready line table out at → b ≡ true → Ready line table out at
+tested line table out at b is e = ready line table out at (sym is ∙ e)
 
 pub ready_from : (line : List ℕ) (table : List Float) (out : List ℕ) (at : ℕ) → Ready line table out at → is_ready line table out at ≡ true
 unfolding is_ready is_table

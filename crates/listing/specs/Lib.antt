@@ -4,6 +4,7 @@ pub mod Lines
 pub mod Text
 pub mod Listing
 pub mod Appended
+pub mod Written
 pub mod Session
 pub mod Gathering
 pub mod Card

@@ -1,18 +1,19 @@
 -- Document 01 section 10: the whole listing, from the bytes of the input to the bytes of the output. Definitions only.
-use Rattle.std.specs.Prelude.{ℕ, zero, suc, cond, List, [], ◌∷◌, ◌++◌, ℤ, pos, Float}
+use Rattle.std.specs.Prelude.{ℕ, zero, suc, List, [], ◌∷◌, ◌++◌, ℤ, pos, Float, Option, Some, None}
 use Rattle.table.specs.Table.{cleared}
 use Rattle.independence.specs.Filling.{rows_of}
 use Rattle.independence.specs.Deck.{Deck, Line, card, malformed, Entry, Outcome, fresh, outcome_on, deck_after}
 use Rattle.deck.specs.Antenna.{the_antenna}
 use Rattle.deck.specs.Run.{count_limit}
-use Rattle.card_line.specs.declared.line.Line as L
+use Rattle.cards.specs.declared.fields.Fields.{Fields}
 use Rattle.card_line.specs.Line.{line_of}
 use Rattle.listing.specs.Lines.{lines_of}
 use Rattle.listing.specs.Text.{heading_text, rows_text, counts_text}
 
 -- ---- a line as an entry of the deck, with a table of 2,760 numbers
-abbrev pub line_in : L.Line → Line the_antenna
-line_in l = cond l.well_formed (card l.fields) malformed
+abbrev pub line_in : Option Fields → Line the_antenna
+line_in (Some f) = card f
+line_in None = malformed
 
 unfoldable pub entry_of : List ℕ → Entry the_antenna
 entry_of l = record { line = line_in (line_of l); table = cleared }
@@ -22,9 +23,13 @@ abbrev pub type_of : Line the_antenna → ℤ
 type_of (card f) = f.kop
 type_of malformed = pos 0
 
--- the rows of an accepted card, out of its table
+-- the rows of a card, out of its table
+abbrev pub card_rows : Fields → List Float → List ℕ
+card_rows f table = rows_text table (the_antenna.first f) (rows_of the_antenna f)
+
+-- they are printed where the card is accepted
 abbrev pub rows_by : Line the_antenna → List Float → ℕ → List ℕ
-rows_by (card f) table zero = rows_text table (the_antenna.first f) (rows_of the_antenna f)
+rows_by (card f) table zero = card_rows f table
 rows_by (card f) table (suc refusal) = []
 rows_by malformed table refusal = []
 

@@ -7,11 +7,11 @@ ghost use Rattle.listing.specs.Gathering.{GatherDone};
 // A line of more than 119 bytes is malformed, so no more than these are held.
 pub const MOST_HELD: usize = 120;
 
+// `end`: where the piece's first line ends, after its line feed, if it ends in the piece.
 #[derive(Clone, Copy)]
 pub(crate) struct Gathered {
-    pub whole: bool,
     pub held: usize,
-    pub used: usize,
+    pub end: Option<usize>,
 }
 
 fn push(line: &mut [u8], held: usize, b: u8) -> usize
@@ -32,22 +32,17 @@ pub(crate) fn gather(line: &mut [u8], held: usize, piece: &[u8]) -> Gathered
     ensures { GatherDone held line.old piece.now line.new result }
 {
     let mut len = held;
-    let mut i: usize = 0;
-    while i < piece.len() {
-        let b = piece[i];
-        i += 1;
-        if b == b'\n' {
+    for i in 0..piece.len() {
+        if piece[i] == b'\n' {
             return Gathered {
-                whole: true,
                 held: len,
-                used: i,
+                end: Some(i + 1),
             };
         }
-        len = push(line, len, b);
+        len = push(line, len, piece[i]);
     }
     Gathered {
-        whole: false,
         held: len,
-        used: i,
+        end: None,
     }
 }

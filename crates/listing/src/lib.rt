@@ -1,3 +1,4 @@
+#![tactic(auto)]
 // The listing of document 01 section 10: lines are gathered from pieces of any size, each is run on
 // the deck, and its text is written.
 mod card;

@@ -4,8 +4,8 @@ ghost use Rattle.listing.specs.Session.{held_in, is_ready, start_of};
 ghost use Rattle.listing.specs.Steps.{StepDone, FinishDone};
 
 use crate::card::list_line;
-use crate::gathering::{MOST_HELD, gather};
-use crate::writing;
+use crate::gathering::{Gathered, MOST_HELD, gather};
+use crate::writing::Writer;
 use deck::Deck;
 
 // 14 bytes of a card's first line, 18 of each of its 30 rows, 15 of the counts.
@@ -41,24 +41,14 @@ pub fn start() -> Session
 fn is_ready(line: &[u8], table: &[f32], out: &[u8], at: usize) -> bool
     ensures { result ≡ is_ready line.now table.now out.now at }
 {
-    if line.len() != MOST_HELD {
-        return false;
-    }
-    if !table::is_table(table) {
-        return false;
-    }
-    if out.len() < ROOM {
-        return false;
-    }
-    at <= out.len() - ROOM
+    line.len() == MOST_HELD && table::is_table(table) && out.len() >= ROOM && at <= out.len() - ROOM
 }
 
 // A session that was made otherwise may say that it holds more than there is.
 fn held_in(session: Session) -> usize
     ensures { result ≡ held_in session.held }
 {
-    let held = session.held;
-    if held < MOST_HELD { held } else { MOST_HELD }
+    session.held.min(MOST_HELD)
 }
 
 // At most one line of the piece is taken, run and written. Nothing is where the buffers
@@ -81,22 +71,20 @@ pub fn step(
             at,
         };
     }
-    let gathered = gather(line, held_in(session), piece);
-    let held = gathered.held;
-    if !gathered.whole {
-        let Session { deck, listed, .. } = session;
+    let Gathered { held, end } = gather(line, held_in(session), piece);
+    let Some(used) = end else {
         return Stepped {
-            session: Session { deck, listed, held },
-            used: gathered.used,
+            session: Session { held, ..session },
+            used: piece.len(),
             at,
         };
-    }
-    let listed = list_line(session, line, held, table, out, at);
-    let next = listed.session;
+    };
+    let mut to = Writer { out, at };
+    let next = list_line(session, &line[..held], table, &mut to);
     Stepped {
         session: next,
-        used: gathered.used,
-        at: listed.at,
+        used,
+        at: to.at,
     }
 }
 
@@ -109,12 +97,12 @@ pub fn finish(session: Session, line: &[u8], table: &mut [f32], out: &mut [u8], 
         return at;
     }
     let held = held_in(session);
-    let Session { deck, .. } = session;
+    let mut to = Writer { out, at };
     if held == 0 {
-        return writing::counts(deck.accepted, deck.refused, out, at);
+        to.counts(session.deck.accepted, session.deck.refused);
+        return to.at;
     }
-    let listed = list_line(session, line, held, table, out, at);
-    let last = listed.session;
-    let deck = last.deck;
-    writing::counts(deck.accepted, deck.refused, out, listed.at)
+    let last = list_line(session, &line[..held], table, &mut to);
+    to.counts(last.deck.accepted, last.deck.refused);
+    to.at
 }

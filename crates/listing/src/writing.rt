@@ -1,80 +1,85 @@
-// The printed lines, each written into a buffer from `at` on. The answer is where it ends.
+// The printed lines, each written into a buffer.
 ghost use Rattle.std.specs.Prelude.{◌≡◌, ◌+◌, ◌≤◌, length};
 ghost use Rattle.table.specs.Table.{row_count, table_length};
 ghost use Rattle.output.specs.Field.{integer_field};
 ghost use Rattle.output.specs.Hundredths.{hundredths_field};
-ghost use Rattle.listing.specs.Appended.{Appended};
+ghost use Rattle.listing.specs.Written.{HasRoom, Written};
 ghost use Rattle.listing.specs.Text.{line_feed, heading_text, row_text, rows_text, counts_text};
 
 use table::{COLUMNS, GAINS};
 
-fn integer(v: i64, width: usize, out: &mut [u8], at: usize) -> usize
-    requires { at + width ≤ length out.old }
-    ensures { Appended out.old at (integer_field v width) out.new result }
-{
-    let end = at + width;
-    output::i(v, &mut out[at..end]);
-    end
+// The next byte is written at `at`.
+#[derive(Drop)]
+pub(crate) struct Writer<'a> {
+    pub out: &'a mut [u8],
+    pub at: usize,
 }
 
-fn hundredths(x: f32, width: usize, out: &mut [u8], at: usize) -> usize
-    requires { at + width ≤ length out.old }
-    ensures { Appended out.old at (hundredths_field x width) out.new result }
-{
-    let end = at + width;
-    output::hundredths_field(x, &mut out[at..end]);
-    end
-}
-
-fn line_feed(out: &mut [u8], at: usize) -> usize
-    requires { at + 1 ≤ length out.old }
-    ensures { Appended out.old at line_feed out.new result }
-{
-    out[at] = b'\n';
-    at + 1
-}
-
-pub(crate) fn heading(place: u32, kop: i32, refusal: u32, out: &mut [u8], at: usize) -> usize
-    requires { at + 14 ≤ length out.old }
-    ensures { Appended out.old at (heading_text place kop refusal) out.new result }
-{
-    let a = integer(place as i64, 7, out, at);
-    let b = integer(kop as i64, 3, out, a);
-    let c = integer(refusal as i64, 3, out, b);
-    line_feed(out, c)
-}
-
-fn row(table: &[f32], m: usize, out: &mut [u8], at: usize) -> usize
-    requires { (length table.now ≡ table_length) × (1 ≤ m) × (m ≤ row_count) × (at + 18 ≤ length out.old) }
-    ensures { Appended out.old at (row_text table.now m) out.new result }
-{
-    let efficiency = table[GAINS + (m - 1)];
-    let gain = table[(m - 1) * COLUMNS];
-    let a = integer(m as i64, 3, out, at);
-    let b = hundredths(efficiency, 7, out, a);
-    let c = hundredths(gain, 7, out, b);
-    line_feed(out, c)
-}
-
-// From `first` MHz on.
-pub(crate) fn rows(table: &[f32], first: usize, count: usize, out: &mut [u8], at: usize) -> usize
-    requires { (length table.now ≡ table_length) × (1 ≤ first) × (first + count ≤ 31) × (at + 540 ≤ length out.old) }
-    ensures { Appended out.old at (rows_text table.now first count) out.new result }
-{
-    let mut end = at;
-    let mut n: usize = 0;
-    while n < count {
-        end = row(table, first + n, out, end);
-        n += 1;
+impl Writer<'_> {
+    fn integer(&mut self, v: i64, width: usize)
+        requires { HasRoom self.old width }
+        ensures { Written self.old (integer_field v width) self.new }
+    {
+        let end = self.at + width;
+        output::i(v, &mut self.out[self.at..end]);
+        self.at = end;
     }
-    end
-}
 
-pub(crate) fn counts(accepted: u32, refused: u32, out: &mut [u8], at: usize) -> usize
-    requires { at + 15 ≤ length out.old }
-    ensures { Appended out.old at (counts_text accepted refused) out.new result }
-{
-    let a = integer(accepted as i64, 7, out, at);
-    let b = integer(refused as i64, 7, out, a);
-    line_feed(out, b)
+    fn hundredths(&mut self, x: f32, width: usize)
+        requires { HasRoom self.old width }
+        ensures { Written self.old (hundredths_field x width) self.new }
+    {
+        let end = self.at + width;
+        output::hundredths_field(x, &mut self.out[self.at..end]);
+        self.at = end;
+    }
+
+    fn line_feed(&mut self)
+        requires { HasRoom self.old 1 }
+        ensures { Written self.old line_feed self.new }
+    {
+        self.out[self.at] = b'\n';
+        self.at += 1;
+    }
+
+    pub(crate) fn heading(&mut self, place: u32, kop: i32, refusal: u32)
+        requires { HasRoom self.old 14 }
+        ensures { Written self.old (heading_text place kop refusal) self.new }
+    {
+        self.integer(place as i64, 7);
+        self.integer(kop as i64, 3);
+        self.integer(refusal as i64, 3);
+        self.line_feed();
+    }
+
+    fn row(&mut self, table: &[f32], m: usize)
+        requires { (length table.now ≡ table_length) × (1 ≤ m) × (m ≤ row_count) × HasRoom self.old 18 }
+        ensures { Written self.old (row_text table.now m) self.new }
+    {
+        let efficiency = table[GAINS + (m - 1)];
+        let gain = table[(m - 1) * COLUMNS];
+        self.integer(m as i64, 3);
+        self.hundredths(efficiency, 7);
+        self.hundredths(gain, 7);
+        self.line_feed();
+    }
+
+    // From `first` MHz on.
+    pub(crate) fn rows(&mut self, table: &[f32], first: usize, count: usize)
+        requires { (length table.now ≡ table_length) × (1 ≤ first) × (first + count ≤ 31) × HasRoom self.old 540 }
+        ensures { Written self.old (rows_text table.now first count) self.new }
+    {
+        for m in first..first + count {
+            self.row(table, m);
+        }
+    }
+
+    pub(crate) fn counts(&mut self, accepted: u32, refused: u32)
+        requires { HasRoom self.old 15 }
+        ensures { Written self.old (counts_text accepted refused) self.new }
+    {
+        self.integer(accepted as i64, 7);
+        self.integer(refused as i64, 7);
+        self.line_feed();
+    }
 }

@@ -1,10 +1,5 @@
 use Rattle.listing.proofs.Pieces.{Gathering}
-use lib.ListN.{length}
-use Prim.Native.Nat.{◌-◌}
 use Rattle.listing.proofs.gathering.gather.Given as goal
 
 abbrev pub invariant-loop-i : goal.invariant-loop-i
 invariant-loop-i l = Gathering l.held l.initial.line l.piece l.line l.len l.i
-
-abbrev pub decreases-loop-i : goal.decreases-loop-i
-decreases-loop-i l = length l.piece - l.i

@@ -1,7 +1,0 @@
-use Rattle.output.specs.Hundredths.{hundredths_field}
-use Rattle.output.proofs.Printed.{hundredths_field_length}
-use Rattle.listing.proofs.Buffer.{field}
-use Rattle.listing.proofs.writing.hundredths.Goals as goal
-
-pub returns : goal.returns
-returns c = field (hundredths_field c.args.x) _ _ _ _ (hundredths_field_length _ _) c.requires c.hundredths_field.ensures
