@@ -20,9 +20,7 @@ pub(crate) fn pair(line: &Line, start: usize) -> u32
 pub(crate) fn bits_at(line: &Line, start: usize) -> u32
     requires { start + 8 ≤ 830 }
 {
-    let all: &[u8] = line;
-    let end = start + 8;
-    vectors::hex(&all[start..end])
+    vectors::hex(&line[start..start + 8])
 }
 
 pub(crate) fn float_at(line: &Line, start: usize) -> f32
@@ -62,10 +60,8 @@ pub(crate) fn slots(line: &Line, first: usize) -> [f32; 20]
     requires { first ≤ 72 }
 {
     let mut slots = [0.0f32; 20];
-    let mut k: usize = 0;
-    while k < 20 {
+    for k in 0..20 {
         slots[k] = float(line, first + k);
-        k += 1;
     }
     slots
 }

@@ -2,41 +2,36 @@
 ghost use Rattle.std.specs.Prelude.{◌<◌, ◌≤◌};
 
 use crate::line::{Line, float, is, word};
-use antenna::Lookup;
-use inverted_cone::ConeGain;
+use antenna::GainEfficiency;
+use refusals::Refusal;
 use table::{COLUMNS, TABLE_LENGTH};
 
 // One more than a table has, for the lines with a wrong length.
 const CELLS: usize = TABLE_LENGTH + 1;
 
-// The halves of n modulo 2 ^ 32 changed over, times a prime, modulo 2 ^ 32.
-fn mixed(n: u64) -> u64
-    ensures { result < 4294967296 }
-{
-    let low = n % 4294967296;
-    (low % 65536 * 65536 + low / 65536) * 2246822519 % 4294967296
+// The halves of n changed over, times a prime.
+fn mixed(n: u32) -> u32 {
+    n.rotate_left(16).wrapping_mul(2246822519)
 }
 
 // Numbers from -100 to 28 and a little more.
-fn plain_cell(a: u64, b: u64) -> f32 {
+fn plain_cell(a: u32, b: u32) -> f32 {
     let high = (b / 64 % 65536) as u16;
     let low = (a % 65536) as u16;
     high as f32 / 512.0 - 100.0 + low as f32 / 7919.0
 }
 
 // Cell k of a seed's table.
-fn cell(seed: u32, k: usize) -> f32
-    requires { k < 2761 }
-{
-    let a = mixed(seed as u64 + k as u64 * 2654435761);
+fn cell(seed: u32, k: u32) -> f32 {
+    let a = mixed(seed.wrapping_add(k.wrapping_mul(2654435761)));
     let b = mixed(a);
     match b % 64 {
-        0 => 0.0 / 0.0,
-        1 => 1.0 / 0.0,
-        2 => -1.0 / 0.0,
+        0 => f32::NAN,
+        1 => f32::INFINITY,
+        2 => f32::NEG_INFINITY,
         3 => -0.0,
         4 => 0.0,
-        5 => vectors::float(a as u32),
+        5 => vectors::float(a),
         _ => plain_cell(a, b),
     }
 }
@@ -54,10 +49,8 @@ fn seeded_table(seed: u32) -> [f32; CELLS] {
         return example_table();
     }
     let mut table = [0.0f32; CELLS];
-    let mut k: usize = 0;
-    while k < CELLS {
-        table[k] = cell(seed, k);
-        k += 1;
+    for k in 0..CELLS {
+        table[k] = cell(seed, k as u32);
     }
     table
 }
@@ -65,11 +58,10 @@ fn seeded_table(seed: u32) -> [f32; CELLS] {
 fn table_length(line: &Line) -> usize
     ensures { result ≤ 2761 }
 {
-    let n = word(line, 1) as usize;
-    if n < CELLS { n } else { CELLS }
+    (word(line, 1) as usize).min(CELLS)
 }
 
-fn lookup(line: &Line, table: &[f32]) -> Lookup {
+fn lookup(line: &Line, table: &[f32]) -> Result<GainEfficiency, Refusal> {
     if line[0] == b'l' {
         return antenna::gain_lookup(table, float(line, 5), float(line, 6));
     }
@@ -87,23 +79,18 @@ fn is_outcome(line: &Line, refusal: u32, gain: f32, efficiency: f32) -> bool {
     (word(line, 7) == refusal) & is(line, 8, gain) & is(line, 9, efficiency)
 }
 
-fn is_found(line: &Line, found: Lookup) -> bool {
-    match found {
-        Lookup::Accepted(v) => is_outcome(line, 0, v.gain, v.efficiency),
-        Lookup::Refused(number) => is_outcome(line, number, 0.0, 0.0),
-    }
-}
-
 fn is_lookup(line: &Line) -> bool {
     let table = seeded_table(word(line, 0));
-    let n = table_length(line);
-    is_found(line, lookup(line, &table[..n]))
+    match lookup(line, &table[..table_length(line)]) {
+        Ok(v) => is_outcome(line, 0, v.gain, v.efficiency),
+        Err(refusal) => is_outcome(line, refusal.number(), 0.0, 0.0),
+    }
 }
 
 fn is_cone(line: &Line) -> bool {
     match inverted_cone::invcon(float(line, 5), float(line, 6)) {
-        ConeGain::Accepted(gain) => is_outcome(line, 0, gain, 0.0),
-        ConeGain::Refused(number) => is_outcome(line, number, 0.0, 0.0),
+        Ok(gain) => is_outcome(line, 0, gain, 0.0),
+        Err(refusal) => is_outcome(line, refusal.number(), 0.0, 0.0),
     }
 }
 

@@ -1,7 +1,8 @@
 // The list `gains`: gain calls.
 use crate::line::{Line, float, is_at, model, pair, word};
-use ioncap::{Gain, GainCall};
+use ioncap::{Answer, GainCall};
 use parameters::IoncapParams;
+use refusals::Refusal;
 
 fn params(line: &Line) -> IoncapParams {
     let aex = [
@@ -35,10 +36,10 @@ fn is_outcome(line: &Line, refusal: u32, gain: f32, efficiency: f32) -> bool {
     (pair(line, 128) == refusal) & is_at(line, 131, gain) & is_at(line, 140, efficiency)
 }
 
-fn is_answer(line: &Line, answer: Gain) -> bool {
+fn is_answer(line: &Line, answer: Result<Answer, Refusal>) -> bool {
     match answer {
-        Gain::Accepted(a) => is_outcome(line, 0, a.gain, a.efficiency),
-        Gain::Refused(number) => is_outcome(line, number, 0.0, 0.0),
+        Ok(a) => is_outcome(line, 0, a.gain, a.efficiency),
+        Err(refusal) => is_outcome(line, refusal.number(), 0.0, 0.0),
     }
 }
 

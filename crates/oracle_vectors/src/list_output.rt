@@ -2,16 +2,13 @@
 ghost use Rattle.std.specs.Prelude.{◌≤◌, length};
 
 use crate::line::{Line, bits_at, float_at, is_at};
-use field_reading::{Decimal, Integer};
 use output::Hundredths;
 
 // The width of the field, at most 24.
 fn width(line: &Line) -> usize
     ensures { result ≤ 24 }
 {
-    let all: &[u8] = line;
-    let w = vectors::hex(&all[3..5]) as usize;
-    if w < 24 { w } else { 24 }
+    (vectors::hex(&line[3..5]) as usize).min(24)
 }
 
 fn value(line: &Line) -> f32 {
@@ -19,25 +16,14 @@ fn value(line: &Line) -> f32 {
 }
 
 fn number(line: &Line) -> i64 {
-    signed(bits_at(line, 15) as u64 * 4294967296 + bits_at(line, 23) as u64)
-}
-
-// The i64 with these bits.
-fn signed(bits: u64) -> i64 {
-    if bits < 0x8000_0000_0000_0000 {
-        bits as i64
-    } else {
-        !((0xffff_ffff_ffff_ffff - bits) as i64)
-    }
+    (bits_at(line, 15) as u64 * 4294967296 + bits_at(line, 23) as u64).cast_signed()
 }
 
 // Whether the line's text is that of out.
 fn is_text(line: &Line, out: &[u8]) -> bool
     requires { length out.now ≤ 24 }
 {
-    let all: &[u8] = line;
-    let end = 32 + out.len();
-    out == &all[32..end]
+    out == &line[32..32 + out.len()]
 }
 
 // A field of the number, or of the f32's hundredths.
@@ -61,20 +47,16 @@ fn is_hundredths(line: &Line) -> bool {
 }
 
 fn is_integer_read(line: &Line) -> bool {
-    let all: &[u8] = line;
-    let end = 32 + width(line);
-    match field_reading::read_integer(&all[32..end]) {
-        Integer::Number(n) => (line[1] == b'w') & (n == number(line)),
-        Integer::Malformed => line[1] == b'm',
+    match field_reading::read_integer(&line[32..32 + width(line)]) {
+        Some(n) => (line[1] == b'w') & (n == number(line)),
+        None => line[1] == b'm',
     }
 }
 
 fn is_decimal_read(line: &Line) -> bool {
-    let all: &[u8] = line;
-    let end = 32 + width(line);
-    match field_reading::read_decimal(&all[32..end]) {
-        Decimal::Value(x) => (line[1] == b'w') & is_at(line, 6, x),
-        Decimal::Malformed => line[1] == b'm',
+    match field_reading::read_decimal(&line[32..32 + width(line)]) {
+        Some(x) => (line[1] == b'w') & is_at(line, 6, x),
+        None => line[1] == b'm',
     }
 }
 

@@ -1,5 +1,6 @@
 // The list `parameters`: `ioninit`, a length's three roles and the curtain's threshold.
 use crate::line::{Line, float, is, model, slots, word};
+use lengths::{HEIGHT_TURN, MONOPOLE_TURN};
 
 fn is_ioninit(line: &Line) -> bool {
     let parm = slots(line, 1);
@@ -20,14 +21,14 @@ fn is_length(line: &Line) -> bool {
     let length = lengths::read_length(float(line, 0));
     let wave = float(line, 1);
     let leg = lengths::leg_in_waves(length, wave);
-    let height = lengths::height_in_waves(length, wave);
-    let monopole = lengths::monopole_in_waves(length, wave);
+    let height = lengths::phase_in_waves(HEIGHT_TURN, length, wave);
+    let monopole = lengths::phase_in_waves(MONOPOLE_TURN, length, wave);
     is(line, 2, leg.fac)
         & is(line, 3, leg.el1)
-        & is(line, 4, height.hwave)
-        & is(line, 5, height.h1)
-        & is(line, 6, monopole.a)
-        & is(line, 7, monopole.x)
+        & is(line, 4, height.phase)
+        & is(line, 5, height.waves)
+        & is(line, 6, monopole.phase)
+        & is(line, 7, monopole.waves)
 }
 
 fn is_threshold(line: &Line) -> bool {

@@ -15,42 +15,11 @@ ghost use Rattle.std.specs.Prelude.{◌≡◌, ◌<◌, ◌≤◌, IfOk, length,
 ghost use Rattle.std.specs.Io.KnownBytes.{Consumes, IsAtEnd};
 
 use line::{Line, MOST_BYTES};
-use list_deck::{Carried, Compared};
+use list_deck::Replay;
 use std::io::Read;
 use std::rt::Files;
 use std::{fs, io};
-use table::TABLE_LENGTH;
 use vectors::{MOST_LINES, Tally};
-
-#[derive(Clone, Copy)]
-enum List {
-    Elementary,
-    Integrals,
-    Parameters,
-    Output,
-    Gains,
-    Antenna,
-    Deck,
-}
-
-// What a line of `deck` carries, a line of any other list leaves as it was.
-fn keeping(carried: Carried, equal: bool) -> Compared {
-    Compared { equal, carried }
-}
-
-fn compare(list: List, line: &Line, before: Carried, table: &mut [f32]) -> Compared
-    requires { length table.old ≡ 2760 }
-{
-    match list {
-        List::Elementary => keeping(before, list_elementary::is_equal(line)),
-        List::Integrals => keeping(before, list_integrals::is_equal(line)),
-        List::Parameters => keeping(before, list_parameters::is_equal(line)),
-        List::Output => keeping(before, list_output::is_equal(line)),
-        List::Gains => keeping(before, list_gains::is_equal(line)),
-        List::Antenna => keeping(before, list_antenna::is_equal(line)),
-        List::Deck => list_deck::compare(line, before, table),
-    }
-}
 
 // Reads until buf is full or the file ends, and returns how many bytes it put at the start of buf.
 fn read_full<F: Read>(file: &mut F, buf: &mut [u8]) -> io::Result<usize>
@@ -75,22 +44,23 @@ const NONE: Tally = Tally {
 };
 
 // A last line that is cut off differs.
-fn replay<F: Read>(list: List, bytes: usize, file: &mut F) -> io::Result<Tally>
-    requires { bytes ≤ 830 }
+fn replay<F: Read, E: FnMut(&Line) -> bool>(
+    file: &mut F,
+    bytes: usize,
+    mut is_equal: E,
+) -> io::Result<Tally>
+    requires bytes_fit { bytes ≤ 830 }
+    requires callable { E.IsAlwaysCallable is_equal }
 {
-    let mut table = [0.0f32; TABLE_LENGTH];
-    let mut carried = list_deck::start();
     let mut tally = NONE;
-    while tally.compared < MOST_LINES {
+    for _ in 0..MOST_LINES {
         let mut line = [0u8; MOST_BYTES];
         let n = read_full(file, &mut line[..bytes])?;
         if n == 0 {
             break;
         }
-        let c = compare(list, &line, carried, &mut table);
-        let left = c.carried;
-        carried = left;
-        tally = vectors::counted(tally, c.equal & (n == bytes));
+        let equal = is_equal(&line);
+        tally = vectors::counted(tally, equal & (n == bytes));
     }
     Ok(tally)
 }
@@ -101,30 +71,38 @@ fn print_tally(rt: &impl Print, name: &str, tally: Tally) -> io::Result<()> {
 }
 
 // The list's file has its name. A file that is missing, or that can't be opened, has no lines.
-fn replay_file(rt: &(impl Files + Print), list: List, name: &str, bytes: usize) -> io::Result<()>
-    requires { bytes ≤ 830 }
+fn replay_file<E: FnMut(&Line) -> bool>(
+    rt: &(impl Files + Print),
+    name: &str,
+    bytes: usize,
+    is_equal: E,
+) -> io::Result<()>
+    requires bytes_fit { bytes ≤ 830 }
+    requires callable { E.IsAlwaysCallable is_equal }
 {
     let tally = match fs::open(rt, name) {
-        Ok(mut file) => replay(list, bytes, &mut file)?,
+        Ok(mut file) => replay(&mut file, bytes, is_equal)?,
         Err(_) => NONE,
     };
     print_tally(rt, name, tally)
 }
 
 fn main(rt: HostRuntime) -> io::Result<()> {
-    replay_file(&rt, List::Elementary, "elementary", 21)?;
-    replay_file(&rt, List::Integrals, "integrals", 30)?;
-    replay_file(&rt, List::Parameters, "parameters", 272)?;
-    replay_file(&rt, List::Output, "output", 57)?;
-    replay_file(&rt, List::Gains, "gains", 158)?;
-    replay_file(&rt, List::Antenna, "antenna", 92)?;
-    replay_file(&rt, List::Deck, "deck", MOST_BYTES)?;
+    replay_file(&rt, "elementary", 21, list_elementary::is_equal)?;
+    replay_file(&rt, "integrals", 30, list_integrals::is_equal)?;
+    replay_file(&rt, "parameters", 272, list_parameters::is_equal)?;
+    replay_file(&rt, "output", 57, list_output::is_equal)?;
+    replay_file(&rt, "gains", 158, list_gains::is_equal)?;
+    replay_file(&rt, "antenna", 92, list_antenna::is_equal)?;
+    let mut deck = Replay::start();
+    replay_file(&rt, "deck", MOST_BYTES, |line| deck.is_equal(line))?;
     // Every line of these is wrong in one place.
-    replay_file(&rt, List::Elementary, "wrong_elementary", 21)?;
-    replay_file(&rt, List::Integrals, "wrong_integrals", 30)?;
-    replay_file(&rt, List::Parameters, "wrong_parameters", 272)?;
-    replay_file(&rt, List::Output, "wrong_output", 57)?;
-    replay_file(&rt, List::Gains, "wrong_gains", 158)?;
-    replay_file(&rt, List::Antenna, "wrong_antenna", 92)?;
-    replay_file(&rt, List::Deck, "wrong_deck", MOST_BYTES)
+    replay_file(&rt, "wrong_elementary", 21, list_elementary::is_equal)?;
+    replay_file(&rt, "wrong_integrals", 30, list_integrals::is_equal)?;
+    replay_file(&rt, "wrong_parameters", 272, list_parameters::is_equal)?;
+    replay_file(&rt, "wrong_output", 57, list_output::is_equal)?;
+    replay_file(&rt, "wrong_gains", 158, list_gains::is_equal)?;
+    replay_file(&rt, "wrong_antenna", 92, list_antenna::is_equal)?;
+    let mut deck = Replay::start();
+    replay_file(&rt, "wrong_deck", MOST_BYTES, |line| deck.is_equal(line))
 }
