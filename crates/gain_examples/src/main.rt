@@ -3,9 +3,10 @@
 // Then the turns that the two series of the integrals take, after refusal 11 or 0 (3 columns each).
 #![tactic(auto)]
 
-use integrals::Computed;
-use ioncap::{Gain, GainCall};
+use integrals::{Settled, Turns};
+use ioncap::{Answer, GainCall};
 use parameters::{IoncapParams, Model};
+use refusals::Refusal;
 use std::io;
 
 fn print_number(rt: &impl Print, n: u32) -> io::Result<()> {
@@ -28,18 +29,19 @@ fn print_text(rt: &impl Print, text: &[u8]) -> io::Result<()> {
 
 fn show(rt: &impl Print, call: GainCall, text: &[u8]) -> io::Result<()> {
     let answer = ioncap::gain_of(call, 0.0);
-    match answer {
-        Gain::Accepted(a) => {
-            print_number(rt, 0)?;
-            print_value(rt, a.gain)?;
-            print_value(rt, a.efficiency)?;
-        }
-        Gain::Refused(n) => {
-            print_number(rt, n)?;
-            print_value(rt, 0.0)?;
-            print_value(rt, 0.0)?;
-        }
-    }
+    let (number, gain, efficiency) = match answer {
+        Ok(
+            Answer {
+                gain,
+                efficiency,
+                ..
+            },
+        ) => (0, gain, efficiency),
+        Err(refusal) => (refusal.number(), 0.0, 0.0),
+    };
+    print_number(rt, number)?;
+    print_value(rt, gain)?;
+    print_value(rt, efficiency)?;
     print_value(rt, ioncap::height_left(answer, 0.0))?;
     print_text(rt, text)
 }
@@ -206,18 +208,13 @@ fn limits(rt: &impl Print) -> io::Result<()> {
 }
 
 fn show_turns(rt: &impl Print, x: f32, text: &[u8]) -> io::Result<()> {
-    match integrals::integrals_of(x) {
-        Computed::Settled(_, turns) => {
-            print_number(rt, 0)?;
-            print_number(rt, turns.ci)?;
-            print_number(rt, turns.si)?;
-        }
-        Computed::Unsettled => {
-            print_number(rt, 11)?;
-            print_number(rt, 0)?;
-            print_number(rt, 0)?;
-        }
-    }
+    let (number, turns) = match integrals::integrals_of(x) {
+        Some(Settled { turns, .. }) => (0, turns),
+        None => (Refusal::Unsettled.number(), Turns::NONE),
+    };
+    print_number(rt, number)?;
+    print_number(rt, turns.ci)?;
+    print_number(rt, turns.si)?;
     print_text(rt, text)
 }
 
