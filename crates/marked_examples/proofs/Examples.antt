@@ -22,18 +22,18 @@ use Rattle.rows.specs.Row.{sok_for, height_for, eff8_for, row_of}
 use Rattle.cells.specs.Cell.{blends_with_zenith, curtain_cell, cell_of, cell_gain}
 use Rattle.gain_core.specs.Core.{above_ground, at_ground, work_of}
 use Rattle.ioncap.specs.Gain.{call_outside, mhz_outside, call_refusal, call_work, gain_of}
-use Rattle.ioncap.specs.declared.gain.Gain.{Gain}
-use Rattle.ioncap.specs.declared.gain.Gain.TheVariants as G
+use Rattle.std.specs.Prelude.{Result, Ok, Err}
+use Rattle.ioncap.specs.declared.gain.Answer.{Answer}
+use Rattle.refusals.specs.Refusals.{number_of, refusal_of}
+use Rattle.refusals.specs.declared.Refusal.{Refusal}
+use Rattle.refusals.proofs.Refusals.{refusal_of_number}
 use Rattle.table.specs.Table.{is_table}
 use Rattle.antenna.specs.Places.{clamped, next_of, place_of}
 use Rattle.antenna.specs.Rows as Table
 use Rattle.lookup_refusals.specs.LookupRefusals.{lookup_refusal}
 use Rattle.antenna.specs.Lookups.{gain_lookup_of}
-use Rattle.antenna.specs.declared.lookups.Lookup.{Lookup}
-use Rattle.antenna.specs.declared.lookups.Lookup.TheVariants as L
+use Rattle.antenna.specs.declared.rows.GainEfficiency.{GainEfficiency}
 use Rattle.inverted_cone.specs.InvertedCone.{cone_freqs, cone_elevs, cone, upper_from, upper_of, interp_of, weight_of, cone_at, cone_value, invcon_number, invcon_of}
-use Rattle.inverted_cone.specs.declared.cone.ConeGain.{ConeGain}
-use Rattle.inverted_cone.specs.declared.cone.ConeGain.TheVariants as C
 use Rattle.output.specs.Field.{spelled, decimal, text, justified, integer_field}
 use Rattle.marked_examples.specs.Examples.{Example, gain_is, cone_is, lookup_is, field_is, Is, EachIs, table, examples}
 use Rattle.marked_examples.specs.Examples.{same, same_gain, same_cone, same_lookup, same_bytes, holds, all, all_hold}
@@ -59,38 +59,41 @@ float_is x y t =
     ∙ ap (of_bits binary32) (eqb→eq (to_bits binary32 x) (to_bits binary32 y) (and_r fit bits t))
     ∙ of_bits-to_bits binary32 y (and_r (fits binary32 x) (fits binary32 y) (and_l fit bits t))
 
-gain_is_lem : (g h : Gain) → T (same_gain g h) → g ≡ h
+refusal_is : (m n : Refusal) → T (eqb (number_of m) (number_of n)) → m ≡ n
+refusal_is m n t = sym (refusal_of_number m) ∙ ap refusal_of (eqb→eq (number_of m) (number_of n) t) ∙ refusal_of_number n
+
+gain_is_lem : (g h : Result Answer Refusal) → T (same_gain g h) → g ≡ h
 unfolding same_gain
-gain_is_lem (G.Accepted a) (G.Accepted b) t =
+gain_is_lem (Ok a) (Ok b) t =
     let g = same a.gain b.gain in
     let e = same a.efficiency b.efficiency in
     let h = same a.height b.height in
     let gain = float_is a.gain b.gain (and_l g e (and_l (g && e) h t)) in
     let efficiency = float_is a.efficiency b.efficiency (and_r g e (and_l (g && e) h t)) in
     let height = float_is a.height b.height (and_r (g && e) h t) in
-    λ i. G.Accepted (record { gain = gain i; efficiency = efficiency i; height = height i })
-gain_is_lem (G.Accepted a) (G.Refused n) t = absurd t
-gain_is_lem (G.Refused m) (G.Accepted b) t = absurd t
-gain_is_lem (G.Refused m) (G.Refused n) t = ap G.Refused (eqb→eq m n t)
+    λ i. Ok (record { gain = gain i; efficiency = efficiency i; height = height i })
+gain_is_lem (Ok a) (Err n) t = absurd t
+gain_is_lem (Err m) (Ok b) t = absurd t
+gain_is_lem (Err m) (Err n) t = ap Err (refusal_is m n t)
 
-cone_is_lem : (g h : ConeGain) → T (same_cone g h) → g ≡ h
+cone_is_lem : (g h : Result Float Refusal) → T (same_cone g h) → g ≡ h
 unfolding same_cone
-cone_is_lem (C.Accepted a) (C.Accepted b) t = ap C.Accepted (float_is a b t)
-cone_is_lem (C.Accepted a) (C.Refused n) t = absurd t
-cone_is_lem (C.Refused m) (C.Accepted b) t = absurd t
-cone_is_lem (C.Refused m) (C.Refused n) t = ap C.Refused (eqb→eq m n t)
+cone_is_lem (Ok a) (Ok b) t = ap Ok (float_is a b t)
+cone_is_lem (Ok a) (Err n) t = absurd t
+cone_is_lem (Err m) (Ok b) t = absurd t
+cone_is_lem (Err m) (Err n) t = ap Err (refusal_is m n t)
 
-lookup_is_lem : (g h : Lookup) → T (same_lookup g h) → g ≡ h
+lookup_is_lem : (g h : Result GainEfficiency Refusal) → T (same_lookup g h) → g ≡ h
 unfolding same_lookup
-lookup_is_lem (L.Accepted a) (L.Accepted b) t =
+lookup_is_lem (Ok a) (Ok b) t =
     let g = same a.gain b.gain in
     let e = same a.efficiency b.efficiency in
     let gain = float_is a.gain b.gain (and_l g e t) in
     let efficiency = float_is a.efficiency b.efficiency (and_r g e t) in
-    λ i. L.Accepted (record { gain = gain i; efficiency = efficiency i })
-lookup_is_lem (L.Accepted a) (L.Refused n) t = absurd t
-lookup_is_lem (L.Refused m) (L.Accepted b) t = absurd t
-lookup_is_lem (L.Refused m) (L.Refused n) t = ap L.Refused (eqb→eq m n t)
+    λ i. Ok (record { gain = gain i; efficiency = efficiency i })
+lookup_is_lem (Ok a) (Err n) t = absurd t
+lookup_is_lem (Err m) (Ok b) t = absurd t
+lookup_is_lem (Err m) (Err n) t = ap Err (refusal_is m n t)
 
 bytes_are : (xs ys : List ℕ) → T (same_bytes xs ys) → xs ≡ ys
 unfolding same_bytes

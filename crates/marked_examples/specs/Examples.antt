@@ -1,27 +1,26 @@
 -- Document 01, "Marked (M) and other examples": the twelve values under its eight marks, each said once. Definitions only.
 -- `EachIs` reads them as equations, `all_hold` as one test.
-use Rattle.std.specs.Prelude.{ℕ, ◌≡◌, Bool, true, false, ◌&&◌, List, [], ◌∷◌, ◌++◌, eqb, ℤ, pos, replicate, Float}
+use Rattle.std.specs.Prelude.{ℕ, ◌≡◌, Bool, true, false, ◌&&◌, List, [], ◌∷◌, ◌++◌, eqb, ℤ, pos, replicate, Float, Result, Ok, Err}
 use Rattle.std.specs.Float.{binary32}
 use Rattle.std.specs.Float.Ieee.{fits, neg, to_bits}
 use Rattle.single.specs.Single.{◌⊞◌, num}
 use Rattle.parameters.specs.declared.model.Model.TheVariants.{Compatible}
 use Rattle.ioncap.specs.Gain.{gain_of}
 use Rattle.ioncap.specs.declared.gain.GainCall.{GainCall}
-use Rattle.ioncap.specs.declared.gain.Gain.{Gain}
-use Rattle.ioncap.specs.declared.gain.Gain.TheVariants as G
+use Rattle.ioncap.specs.declared.gain.Answer.{Answer}
+use Rattle.refusals.specs.Refusals.{number_of}
+use Rattle.refusals.specs.declared.Refusal.{Refusal}
+use Rattle.refusals.specs.declared.Refusal.TheVariants as R
 use Rattle.inverted_cone.specs.InvertedCone.{invcon_of}
-use Rattle.inverted_cone.specs.declared.cone.ConeGain.{ConeGain}
-use Rattle.inverted_cone.specs.declared.cone.ConeGain.TheVariants as C
 use Rattle.antenna.specs.Lookups.{gain_lookup_of}
-use Rattle.antenna.specs.declared.lookups.Lookup.{Lookup}
-use Rattle.antenna.specs.declared.lookups.Lookup.TheVariants as L
+use Rattle.antenna.specs.declared.rows.GainEfficiency.{GainEfficiency}
 use Rattle.output.specs.Field.{integer_field}
 
 -- ---- an example: what is asked, and the whole answer
 pub data Example : Type 0 where
-  gain_is : GainCall → Float → Gain → Example
-  cone_is : Float → Float → ConeGain → Example
-  lookup_is : List Float → Float → Float → Lookup → Example
+  gain_is : GainCall → Float → Result Answer Refusal → Example
+  cone_is : Float → Float → Result Float Refusal → Example
+  lookup_is : List Float → Float → Float → Result GainEfficiency Refusal → Example
   field_is : ℤ → ℕ → List ℕ → Example
 
 -- its equation
@@ -61,11 +60,11 @@ abbrev pub curtain_call : Float → GainCall
 curtain_call elements = call_of 6 (num 1 100) elements (num 1 1)
 
 -- The marks name the gain. Efficiency and height left are by sections 5 and 6: the type's, and the carried height on the ground, 1 above it
-abbrev pub accepted : Float → Float → Float → Gain
-accepted gain efficiency height = G.Accepted (record { gain = gain; efficiency = efficiency; height = height })
+abbrev pub accepted : Float → Float → Float → Result Answer Refusal
+accepted gain efficiency height = Ok (record { gain = gain; efficiency = efficiency; height = height })
 
-abbrev pub found : Float → Float → Lookup
-found gain efficiency = L.Accepted (record { gain = gain; efficiency = efficiency })
+abbrev pub found : Float → Float → Result GainEfficiency Refusal
+found gain efficiency = Ok (record { gain = gain; efficiency = efficiency })
 
 -- rows 1 and 2 at -30 and -20 on the ground, other cells 0
 unfoldable pub table : List Float
@@ -83,14 +82,14 @@ examples =
     ∷ gain_is (curtain_call (num 4 1)) (num 0 1) (accepted (minus 26 1) (num 0 1) (num 1 1))
     ∷ gain_is (curtain_call (minus 2 1)) (num 0 1) (accepted (minus 30 1) (num 0 1) (num 1 1))
     -- M cone (MHz, degrees): (2, 0) -20; (3, 5) -8; (4, 5) -7; (30, 90) -40
-    ∷ cone_is (num 2 1) (num 0 1) (C.Accepted (minus 20 1))
-    ∷ cone_is (num 3 1) (num 5 1) (C.Accepted (minus 8 1))
-    ∷ cone_is (num 4 1) (num 5 1) (C.Accepted (minus 7 1))
-    ∷ cone_is (num 30 1) (num 90 1) (C.Accepted (minus 40 1))
+    ∷ cone_is (num 2 1) (num 0 1) (Ok (minus 20 1))
+    ∷ cone_is (num 3 1) (num 5 1) (Ok (minus 8 1))
+    ∷ cone_is (num 4 1) (num 5 1) (Ok (minus 7 1))
+    ∷ cone_is (num 30 1) (num 90 1) (Ok (minus 40 1))
     -- M rows 1 and 2 at -30 and -20 on the ground, other cells 0, lookup 0.5 MHz at elevation 0: -25
     ∷ lookup_is table (num 5 10) (num 0 1) (found (minus 25 1) (num 0 1))
     -- M conductivity 0 at elevation 0: 3
-    ∷ gain_is (call_of 1 (num 0 1) (num 0 1) (num 0 1)) (num 0 1) (G.Refused 3)
+    ∷ gain_is (call_of 1 (num 0 1) (num 0 1) (num 0 1)) (num 0 1) (Err R.Conductivity)
     -- M `i(12345, 4)`: `****`
     ∷ field_is (pos 12345) 4 (42 ∷ 42 ∷ 42 ∷ 42 ∷ [])
     ∷ []
@@ -99,23 +98,23 @@ examples =
 unfoldable pub same : Float → Float → Bool
 same x y = fits binary32 x && fits binary32 y && eqb (to_bits binary32 x) (to_bits binary32 y)
 
-unfoldable pub same_gain : Gain → Gain → Bool
-same_gain (G.Accepted a) (G.Accepted b) = same a.gain b.gain && same a.efficiency b.efficiency && same a.height b.height
-same_gain (G.Accepted a) (G.Refused n) = false
-same_gain (G.Refused m) (G.Accepted b) = false
-same_gain (G.Refused m) (G.Refused n) = eqb m n
+unfoldable pub same_gain : Result Answer Refusal → Result Answer Refusal → Bool
+same_gain (Ok a) (Ok b) = same a.gain b.gain && same a.efficiency b.efficiency && same a.height b.height
+same_gain (Ok a) (Err n) = false
+same_gain (Err m) (Ok b) = false
+same_gain (Err m) (Err n) = eqb (number_of m) (number_of n)
 
-unfoldable pub same_cone : ConeGain → ConeGain → Bool
-same_cone (C.Accepted a) (C.Accepted b) = same a b
-same_cone (C.Accepted a) (C.Refused n) = false
-same_cone (C.Refused m) (C.Accepted b) = false
-same_cone (C.Refused m) (C.Refused n) = eqb m n
+unfoldable pub same_cone : Result Float Refusal → Result Float Refusal → Bool
+same_cone (Ok a) (Ok b) = same a b
+same_cone (Ok a) (Err n) = false
+same_cone (Err m) (Ok b) = false
+same_cone (Err m) (Err n) = eqb (number_of m) (number_of n)
 
-unfoldable pub same_lookup : Lookup → Lookup → Bool
-same_lookup (L.Accepted a) (L.Accepted b) = same a.gain b.gain && same a.efficiency b.efficiency
-same_lookup (L.Accepted a) (L.Refused n) = false
-same_lookup (L.Refused m) (L.Accepted b) = false
-same_lookup (L.Refused m) (L.Refused n) = eqb m n
+unfoldable pub same_lookup : Result GainEfficiency Refusal → Result GainEfficiency Refusal → Bool
+same_lookup (Ok a) (Ok b) = same a.gain b.gain && same a.efficiency b.efficiency
+same_lookup (Ok a) (Err n) = false
+same_lookup (Err m) (Ok b) = false
+same_lookup (Err m) (Err n) = eqb (number_of m) (number_of n)
 
 unfoldable pub same_bytes : List ℕ → List ℕ → Bool
 same_bytes [] [] = true
