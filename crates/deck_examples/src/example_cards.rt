@@ -1,3 +1,4 @@
+#![tactic(auto)]
 // The cards of the examples: dielectric 4 and conductivity 0.01.
 use crate::tables::BEFORE;
 use cards::Fields;
@@ -16,11 +17,7 @@ pub(crate) fn card_at(
     let mut slots = [0.0f32; 20];
     slots[2] = 4.0;
     slots[3] = 0.01;
-    let mut k: usize = 0;
-    while k < 7 {
-        slots[k + 5] = values[k];
-        k += 1;
-    }
+    slots[5..12].copy_from_slice(&values);
     Fields {
         kop,
         first,

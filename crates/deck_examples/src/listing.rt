@@ -1,17 +1,19 @@
+#![tactic(auto)]
 // Document 01's two cards in its listing's form, and swapped.
-ghost use Rattle.std.specs.Prelude.{◌<◌, ◌≡◌, length};
+ghost use Rattle.std.specs.Prelude.{◌<◌};
 
 use crate::example_cards::card_at;
 use crate::text::{print, print_hundredths, print_narrow};
 use cards::Fields;
 use deck::Deck;
 use parameters::Model;
+use refusals::verdict_number;
 use std::io;
-use table::{COLUMNS, GAINS};
+use table::{COLUMNS, GAINS, Table};
 
 // MHz, efficiency and ground gain.
-fn print_row(rt: &impl Print, row: usize, mhz: u32, table: &[f32]) -> io::Result<()>
-    requires { (length table.now ≡ 2760) × (row < 30) }
+fn print_row(rt: &impl Print, row: usize, mhz: u32, table: &Table) -> io::Result<()>
+    requires { row < 30 }
 {
     print_narrow(rt, mhz)?;
     print_hundredths(rt, table[GAINS + row])?;
@@ -47,30 +49,24 @@ fn print_card(
     kop: u32,
     fields: Fields,
     deck: Deck,
-    table: &mut [f32],
-) -> io::Result<Deck>
-    requires { length table.old ≡ 2760 }
-{
+    table: &mut Table,
+) -> io::Result<Deck> {
     let answer = deck::run_card(deck, fields, table);
     print_narrow(rt, kop)?;
-    print_narrow(rt, answer.verdict)?;
+    print_narrow(rt, verdict_number(answer.verdict))?;
     print(rt, b"\n")?;
     print_row(rt, 1, 2, table)?;
     print_row(rt, 2, 3, table)?;
     Ok(answer.deck)
 }
 
-fn print_swapped(rt: &impl Print, table: &mut [f32]) -> io::Result<()>
-    requires { length table.old ≡ 2760 }
-{
+fn print_swapped(rt: &impl Print, table: &mut Table) -> io::Result<()> {
     let left = print_card(rt, 1, type_one(), deck::fresh(), table)?;
     print_card(rt, 2, type_two(), left, table)?;
     Ok(())
 }
 
-pub(crate) fn print_listings(rt: &impl Print, table: &mut [f32]) -> io::Result<()>
-    requires { length table.old ≡ 2760 }
-{
+pub(crate) fn print_listings(rt: &impl Print, table: &mut Table) -> io::Result<()> {
     print(rt, b"Document 01's cards of types 2 and 1\n")?;
     let left = print_card(rt, 2, type_two(), deck::fresh(), table)?;
     print_card(rt, 1, type_one(), left, table)?;

@@ -1,3 +1,4 @@
+#![tactic(auto)]
 // Decks that hold something already: the ends of the counts, the height, and the table's length.
 ghost use Rattle.std.specs.Prelude.{◌≤◌};
 
@@ -5,10 +6,9 @@ use crate::example_cards::rhombic;
 use crate::tables::{BEFORE, count};
 use crate::text::{print, print_hundredths, print_number};
 use deck::{CardAnswer, Deck};
+use refusals::verdict_number;
 use std::io;
 use table::TABLE_LENGTH;
-
-const MAX: u32 = 4_294_967_295;
 
 fn print_counts_of(rt: &impl Print, deck: Deck) -> io::Result<()> {
     print(rt, b"counts ")?;
@@ -22,7 +22,7 @@ fn print_counts_of(rt: &impl Print, deck: Deck) -> io::Result<()> {
 // How many of the table's numbers are 0, and how many are as they were.
 fn print_answer(rt: &impl Print, answer: CardAnswer, table: &[f32]) -> io::Result<()> {
     print(rt, b"    verdict ")?;
-    print_number(rt, answer.verdict as u64)?;
+    print_number(rt, verdict_number(answer.verdict) as u64)?;
     print(rt, b", ")?;
     print_counts_of(rt, answer.deck)?;
     print(rt, b", zeros ")?;
@@ -73,14 +73,14 @@ fn preset_deck(k: usize) -> Deck {
         2 => deck_of(0.5, 1_000_000, 0),
         3 => deck_of(0.5, 500_000, 500_000),
         4 => deck_of(0.5, 0, 1_000_001),
-        5 => deck_of(0.5, MAX, MAX),
-        6 => deck_of(0.5, MAX, 1),
-        7 => deck_of(0.0 / 0.0, 3, 4),
-        8 => deck_of(1.0 / 0.0, 3, 4),
-        9 => deck_of(-1.0 / 0.0, 3, 4),
+        5 => deck_of(0.5, u32::MAX, u32::MAX),
+        6 => deck_of(0.5, u32::MAX, 1),
+        7 => deck_of(f32::NAN, 3, 4),
+        8 => deck_of(f32::INFINITY, 3, 4),
+        9 => deck_of(f32::NEG_INFINITY, 3, 4),
         10 => deck_of(-1000.5, 3, 4),
-        11 => deck_of(0.0 / 0.0, 1_000_000, 4),
-        15 => deck_of(0.0 / 0.0, 3, 4),
+        11 => deck_of(f32::NAN, 1_000_000, 4),
+        15 => deck_of(f32::NAN, 3, 4),
         16 => deck_of(0.5, 1_000_000, 4),
         _ => deck_of(0.5, 3, 4),
     }
@@ -110,10 +110,8 @@ pub(crate) fn print_presets(rt: &impl Print) -> io::Result<()> {
         rt,
         b"Decks that hold something: a card of one row, and a malformed entry\n",
     )?;
-    let mut k: usize = 0;
-    while k < PRESETS {
+    for k in 0..PRESETS {
         print_preset(rt, k)?;
-        k += 1;
     }
     Ok(())
 }

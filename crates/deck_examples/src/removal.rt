@@ -1,12 +1,13 @@
+#![tactic(auto)]
 // A deck run with and without one of its entries.
-ghost use Rattle.std.specs.Prelude.{◌+◌, ◌≤◌, ◌≡◌, length, IfOk};
+ghost use Rattle.std.specs.Prelude.{◌≤◌, IfOk};
 
 use crate::example_cards::{ENTRIES, run_entry};
-use crate::tables::{next_difference, one_if};
+use crate::tables::one_if;
 use crate::text::{print, print_hundredths, print_number};
 use deck::Deck;
 use std::io;
-use table::{COLUMNS, GAINS};
+use table::{COLUMNS, GAINS, TABLE_LENGTH, Table};
 
 // Where a number stands in its table.
 fn print_place(rt: &impl Print, k: usize) -> io::Result<()> {
@@ -24,15 +25,16 @@ fn print_place(rt: &impl Print, k: usize) -> io::Result<()> {
 fn print_differences(
     rt: &impl Print,
     entry: usize,
-    with: &[f32],
-    without: &[f32],
+    with: &Table,
+    without: &Table,
 ) -> io::Result<u64>
-    requires { (length with.now ≡ 2760) × (length without.now ≡ 2760) }
     ensures { IfOk result (λ n. n ≤ 2760) }
 {
     let mut differ: u64 = 0;
-    let mut k = next_difference(with, without, 0);
-    while k < with.len() {
+    for k in 0..TABLE_LENGTH {
+        if vectors::same(with[k], without[k]) {
+            continue;
+        }
         print(rt, b"  entry ")?;
         print_number(rt, entry as u64)?;
         print(rt, b", ")?;
@@ -43,7 +45,6 @@ fn print_differences(
         print_hundredths(rt, without[k])?;
         print(rt, b"\n")?;
         differ += 1;
-        k = next_difference(with, without, k + 1);
     }
     Ok(differ)
 }
@@ -64,27 +65,24 @@ fn run_on_both(
     removed: usize,
     with: Deck,
     without: Deck,
-    a: &mut [f32],
-    b: &mut [f32],
+    a: &mut Table,
+    b: &mut Table,
 ) -> io::Result<Decks>
-    requires { (length a.old ≡ 2760) × (length b.old ≡ 2760) }
     ensures { IfOk result (λ d. (d.verdicts ≤ 1) × (d.numbers ≤ 2760)) }
 {
     let one = run_entry(k, with, a);
-    let left = one.deck;
     if k == removed {
         return Ok(Decks {
-            with: left,
+            with: one.deck,
             without,
             verdicts: 0,
             numbers: 0,
         });
     }
     let other = run_entry(k, without, b);
-    let other_left = other.deck;
     Ok(Decks {
-        with: left,
-        without: other_left,
+        with: one.deck,
+        without: other.deck,
         verdicts: one_if(one.verdict != other.verdict),
         numbers: print_differences(rt, k, a, b)?,
     })
@@ -99,41 +97,36 @@ fn print_counts(rt: &impl Print, verdicts: u64, numbers: u64) -> io::Result<()> 
 }
 
 // Runs all entries, and all but `removed`.
-fn compare_without(rt: &impl Print, removed: usize, a: &mut [f32], b: &mut [f32]) -> io::Result<()>
-    requires { (length a.old ≡ 2760) × (length b.old ≡ 2760) }
-{
+fn compare_without(
+    rt: &impl Print,
+    removed: usize,
+    a: &mut Table,
+    b: &mut Table,
+) -> io::Result<()> {
     let mut with = deck::fresh();
     let mut without = deck::fresh();
     let mut verdicts: u64 = 0;
     let mut numbers: u64 = 0;
-    let mut k: usize = 1;
-    while k <= ENTRIES {
+    for k in 1..ENTRIES + 1 {
         let decks = run_on_both(rt, k, removed, with, without, a, b)?;
-        let left = decks.with;
-        let other_left = decks.without;
-        with = left;
-        without = other_left;
+        with = decks.with;
+        without = decks.without;
         verdicts += decks.verdicts;
         numbers += decks.numbers;
-        k += 1;
     }
     print_counts(rt, verdicts, numbers)
 }
 
-pub(crate) fn print_removals(rt: &impl Print, a: &mut [f32], b: &mut [f32]) -> io::Result<()>
-    requires { (length a.old ≡ 2760) × (length b.old ≡ 2760) }
-{
+pub(crate) fn print_removals(rt: &impl Print, a: &mut Table, b: &mut Table) -> io::Result<()> {
     print(
         rt,
         b"A deck of ten entries, with and without one of them, in hundredths of a dB\n",
     )?;
-    let mut removed: usize = 1;
-    while removed <= ENTRIES {
+    for removed in 1..ENTRIES + 1 {
         print(rt, b"without entry ")?;
         print_number(rt, removed as u64)?;
         print(rt, b"\n")?;
         compare_without(rt, removed, a, b)?;
-        removed += 1;
     }
     Ok(())
 }

@@ -1,3 +1,4 @@
+#![tactic(auto)]
 // Text and numbers on standard output.
 use std::io;
 
