@@ -13,9 +13,9 @@ advanced c = advance _ _ c.args.piece.now _ _ _ c.loop-used.used _ _ _ _ c.loop-
 kept : (c : After-step-r) → let l = c.loop-used in SameLengths l.line l.table l.out c.step-r.new.line c.step-r.new.table c.step-r.new.out
 kept c = search rules
 
-pub flush_full-s-requires : goal.flush_full-s-requires
-flush_full-s-requires c =
-    let s = (goal.at.flush_full-s-requires c).After-step-r in
+pub flush_full-requires : goal.flush_full-requires
+flush_full-requires c =
+    let s = (goal.at.flush_full-requires c).After-step-r in
     (search rules, omega (arith, (advanced s).fits, (kept s).out_same))
 
 pub overflow_add-used : goal.overflow_add-used
@@ -34,7 +34,7 @@ loop-used-preserved c =
     let i = c.loop-used.invariant in
     let k = kept s in
     record {
-      kept = record { line_length = k.line_same ∙ i.kept.line_length; table_len = k.table_same ∙ i.kept.table_len; room = c.flush_full-s.ensures };
+      kept = record { line_length = k.line_same ∙ i.kept.line_length; table_len = k.table_same ∙ i.kept.table_len; room = c.in_ok-s.ensures };
       within = (advanced s).within;
       lengths = record { line_same = k.line_same ∙ i.lengths.line_same; table_same = k.table_same ∙ i.lengths.table_same; out_same = k.out_same ∙ i.lengths.out_same };
     }
