@@ -13,10 +13,7 @@ fn piece_end(from: usize, size: usize, len: usize) -> usize
     requires { from ≤ len }
     ensures { (from ≤ result) × (result ≤ len) }
 {
-    if size <= len - from {
-        return from + size;
-    }
-    len
+    from + size.min(len - from)
 }
 
 fn print_start(mut to: Stdout, out: &[u8], end: usize) -> Result<()> {
@@ -38,15 +35,12 @@ pub(crate) fn print_listing(
 ) -> Result<()> {
     let mut s = start;
     let mut from: usize = 0;
-    let mut steps: usize = 0;
-    while steps < input.len() {
+    for _ in 0..input.len() {
         let end = piece_end(from, size, input.len());
         let r = listing::step(s, line, &input[from..end], table, out, 0);
         print_start(to, out, r.at)?;
-        let next = r.session;
-        s = next;
-        from = from + r.used;
-        steps += 1;
+        s = r.session;
+        from += r.used;
     }
     let end = listing::finish(s, line, table, out, 0);
     print_start(to, out, end)
