@@ -12,10 +12,12 @@ use Rattle.single.specs.Single.{num, whole}
 use Rattle.limits.specs.Refusals.{first_refusal}
 use Rattle.limits.specs.Tests.{any_outside}
 use Rattle.antennas.specs.Antenna.{antenna_of}
-use Rattle.gain_core.specs.declared.calls.Worked.{Worked}
-use Rattle.gain_core.specs.declared.calls.Worked.TheVariants as W
+use Rattle.std.specs.Prelude.{Option, Some, None, Result}
+use Rattle.refusals.specs.declared.Refusal.{Refusal}
+use Rattle.integrals.specs.Settled.{unsettled_number}
+use Rattle.gain_core.specs.declared.calls.Call.{Call}
 use Rattle.ioncap.specs.Gain.{call_outside, mhz_outside, call_refusal, call_work, answered, gain_of, gain_number, gain_value, efficiency_value, height_left}
-use Rattle.ioncap.specs.declared.gain.Gain.{Gain}
+use Rattle.ioncap.specs.declared.gain.Answer as Gain
 use Rattle.table.specs.Table.{gain_at, efficiency_at}
 use Rattle.independence.specs.Antenna.{Answer}
 use Rattle.independence.specs.Antenna as Antenna
@@ -39,16 +41,16 @@ use Rattle.deck.proofs.Laws.{the_laws, mhz_range}
 use Rattle.deck_gains.specs.CellCalls.{cell_call, IsGainOf, IsAbove, TableOfCalls, TablesOfCalls}
 
 -- ---- what a deck's call and a gain call make of the same work
-record Answers (a : Answer) (w : Worked) (height : Float) : Type 0 where
+record Answers (a : Answer) (w : Option Call) (height : Float) : Type 0 where
   number : gain_number (answered w) ≡ 0
   gain : a.gain ≡ gain_value (answered w)
   efficiency : a.efficiency ≡ efficiency_value (answered w)
   left : a.height ≡ height_left (answered w) height
 
-answers : (w : Worked) (height : Float) → (answer_of w).refusal ≡ 0 → Answers (answer_of w) w height
-unfolding gain_number gain_value efficiency_value height_left
-answers (W.Settled call) height e = record { number = refl; gain = refl; efficiency = refl; left = refl }
-answers W.Unsettled height e = let z : ⊥ = omega arith in absurd z
+answers : (w : Option Call) (height : Float) → (answer_of w).refusal ≡ 0 → Answers (answer_of w) w height
+unfolding gain_number gain_value efficiency_value height_left unsettled_number
+answers (Some call) height e = record { number = refl; gain = refl; efficiency = refl; left = refl }
+answers None height e = let z : ⊥ = omega arith in absurd z
 
 -- ---- a cell's gain call has the deck's work, and is within the limits
 module _ (f : Fields) (m d : ℕ) (F : Fills the_antenna f m) (k : d < 91) (height : Float) (fin : T (finite height)) where
@@ -145,7 +147,7 @@ module _ (f : Fields) (h : Float) (p : Passes the_antenna f h) (fin : T (finite 
       ∙ ap (Antenna.height_left the_antenna f) row
       ∙ sym (the_laws.leaves f m 89 height (fills m lo hi) (omega arith) (accepted_above m 89 lo hi (omega arith) height))
       ∙ (last_call m lo hi height fin').left
-      ∙ sym (ap (λ (g : Gain). height_left g height) (is_work f m 90 (fills m lo hi) (omega arith) height fin'))
+      ∙ sym (ap (λ (g : Result Gain.Answer Refusal). height_left g height) (is_work f m 90 (fills m lo hi) (omega arith) height fin'))
 
   pub table_of_calls : TableOfCalls f h (card_table the_antenna f h)
   table_of_calls = record { on_ground = ground_cell_lem; above = above_cell; efficiency = efficiency_is; left = left_is }
