@@ -18,8 +18,7 @@ small : (c : In_ok-decimals) → (c.in_ok-minus.field-0.magnitude < 10000) × (c
 small c =
     let l = c.args.s.now in
     let w = c.in_ok-point.ensures.0 in
-    let q = c.in_ok-point.ensures.1 in
-    (
+    let q = c.in_ok-point.ensures.1 in (
       a_below l _ w q _ c.signed_digits.ensures _ c.in_ok-minus.was _ c.digits.ensures,
       b_below l _ w q _ c.signed_digits.ensures _ c.in_ok-minus.was _ c.digits.ensures _ c.in_ok-decimals.was,
     )
