@@ -1,7 +1,9 @@
 #![tactic(auto)]
-// What a card's slots and a gain call's numbers mean: the parameters of a type, and the model.
+// What a card's slots and a gain call's numbers mean: the type and its parameters, and the model.
+mod kind;
 mod model;
 mod params;
 
+pub use kind::Kind;
 pub use model::{Fixes, Model, curtain_elevation_threshold};
 pub use params::{IoncapParams, ioninit};
