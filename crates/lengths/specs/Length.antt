@@ -1,9 +1,10 @@
 -- Document 01 section 8: lengths by kind, and their three roles in `iongain2` against the call's wave. Definitions only.
-use Rattle.std.specs.Prelude.{cond, ℤ, Float}
+use Rattle.std.specs.Prelude.{cond, Float}
 use Rattle.std.specs.Float.Ieee.{neg, lt}
 use Rattle.single.specs.Single.{◌⊠◌, ◌⊘◌, num}
 use Rattle.elementary.specs.Basic.{absolute}
-use Rattle.parameters.specs.Params.{is_type}
+use Rattle.parameters.specs.declared.kind.Kind.{Kind}
+use Rattle.parameters.specs.declared.kind.Kind.TheVariants as K
 use Rattle.lengths.specs.declared.length.Length.{Length}
 use Rattle.lengths.specs.declared.length.Length.TheVariants.{Metres, Wavelengths}
 use Rattle.lengths.specs.declared.length.LegInWaves.{LegInWaves}
@@ -14,8 +15,9 @@ unfoldable pub length_of : Float → Length
 length_of v = cond (lt v (num 0 1)) (Wavelengths (neg v)) (Metres v)
 
 -- the height slot of a type. "Type 2's height slot stays a plain gain": no length is read from it
-unfoldable pub height_slot_of : ℤ → Float → Length
-height_slot_of kop anh = cond (is_type kop 2) (Metres (num 0 1)) (length_of anh)
+unfoldable pub height_slot_of : Kind → Float → Length
+height_slot_of K.Monopole anh = Metres (num 0 1)
+height_slot_of _ anh = length_of anh
 
 -- the leg: fac and el1
 unfoldable pub leg_of : Length → Float → LegInWaves

@@ -2,6 +2,8 @@
 ghost use Rattle.std.specs.Prelude.{◌≡◌};
 ghost use Rattle.lengths.specs.Length.{height_slot_of, length_of, leg_of, phase_of};
 
+use parameters::Kind;
+
 #[derive(Clone, Copy)]
 pub enum Length {
     Metres(f32),
@@ -39,11 +41,11 @@ pub fn read_length(v: f32) -> Length
 }
 
 // Type 2's `anh` stays a gain in the parameters: no length is read from it.
-pub fn read_height(kop: i32, anh: f32) -> Length
-    ensures { result ≡ height_slot_of kop anh }
+pub fn read_height(kind: Kind, anh: f32) -> Length
+    ensures { result ≡ height_slot_of kind anh }
 {
-    match kop {
-        2 => Length::Metres(0.0),
+    match kind {
+        Kind::Monopole => Length::Metres(0.0),
         _ => read_length(anh),
     }
 }
