@@ -1,14 +1,15 @@
 -- Laws of `finish`: what the ground gives, and the floor. Assumes nothing.
-use mathlib.Core.Path.{◌≡◌, refl, sym, subst}
-use mathlib.Core.Bool.{Bool, true, false, not, ◌&&◌, ◌||◌, cond}
+use mathlib.Core.Path.{◌≡◌, refl, sym, subst, ◌∙◌}
+use mathlib.Core.Bool.{Bool, true, false, not, ◌||◌, cond, true≢false}
 use mathlib.Core.Logic.{◌⊎◌, inl, inr}
 use lib.Dec.{T}
-use lib.IntN.{ℤ}
 use lib.Ieee.{Float, nan, binary32, fits, lt, le, neg, round}
 use lib.Ieee.Fits.{neg-fits, cond-fits, add-fits}
 use Rattle.single.specs.Single.{◌⊞◌, num}
 use Rattle.single.proofs.Floor.{above_floor, lowered_plus}
-use Rattle.parameters.specs.Params.{is_type}
+use Rattle.parameters.specs.Kind.{is_kind}
+use Rattle.parameters.specs.declared.kind.Kind.{Kind}
+use Rattle.parameters.specs.declared.kind.Kind.TheVariants as K
 use Rattle.finish.specs.Finish.{floor, monopole_efficiency, efficiency_of, floored, ground_of}
 
 -- ---- an efficiency on the ground is a single-precision number
@@ -24,37 +25,83 @@ monopole_fits : (x : Float) → T (fits binary32 (monopole_efficiency x))
 unfolding monopole_efficiency
 monopole_fits x = cond-fits binary32 (le (num 35 100) x) (num 0 1) _ zero-fits (neg-fits binary32 _ (add-fits binary32 _ _))
 
-efficiency_fits : (kop : ℤ) (x : Float) → T (fits binary32 (efficiency_of kop x (num 0 1)))
+efficiency_fits : (kind : Kind) (x : Float) → T (fits binary32 (efficiency_of kind x (num 0 1)))
 unfolding efficiency_of
-efficiency_fits kop x =
-    cond-fits binary32 (is_type kop 1 || is_type kop 7 || is_type kop 9 || is_type kop 10) (neg (num 17 10)) _ constant_fits
-    (cond-fits binary32 (is_type kop 2 || is_type kop 5) (monopole_efficiency x) _ (monopole_fits x) (cond-fits binary32 (is_type kop 8) (num 0 1) (num 0 1) zero-fits zero-fits))
+efficiency_fits K.Rhombic x = constant_fits
+efficiency_fits K.Monopole x = monopole_fits x
+efficiency_fits K.Dipole x = zero-fits
+efficiency_fits K.Yagi x = zero-fits
+efficiency_fits K.LogPeriodic x = monopole_fits x
+efficiency_fits K.Curtain x = zero-fits
+efficiency_fits K.SlopingVee x = constant_fits
+efficiency_fits K.InvertedL x = zero-fits
+efficiency_fits K.SlopingRhombic x = constant_fits
+efficiency_fits K.InterlacedRhombic x = constant_fits
+efficiency_fits K.Other x = zero-fits
 
 both : {A : Type 0} (b : Bool) (x y z : A) → x ≡ z → y ≡ z → cond b x y ≡ z
 both true x y z p q = p
 both false x y z p q = q
 
+pub floored_others : (kind : Kind) (rain eff sok : Float) → is_kind kind 2 ≡ false
+    → floored kind rain eff sok ≡ cond (le (rain ⊞ (eff ⊞ sok)) floor) (floor ⊞ eff) (rain ⊞ (eff ⊞ sok))
+unfolding floored
+floored_others K.Rhombic rain eff sok e = refl
+floored_others K.Monopole rain eff sok e = absurd (true≢false e)
+floored_others K.Dipole rain eff sok e = refl
+floored_others K.Yagi rain eff sok e = refl
+floored_others K.LogPeriodic rain eff sok e = refl
+floored_others K.Curtain rain eff sok e = refl
+floored_others K.SlopingVee rain eff sok e = refl
+floored_others K.InvertedL rain eff sok e = refl
+floored_others K.SlopingRhombic rain eff sok e = refl
+floored_others K.InterlacedRhombic rain eff sok e = refl
+floored_others K.Other rain eff sok e = refl
+
+-- the floor changes nothing where the sum is the floor's own gain
+floored_same : (kind : Kind) (rain eff sok : Float) → rain ⊞ (eff ⊞ sok) ≡ floor ⊞ eff → floored kind rain eff sok ≡ floor ⊞ eff
+floored_same K.Monopole rain eff sok e = unfold floored in e
+floored_same K.Rhombic rain eff sok e = floored_others K.Rhombic rain eff sok refl ∙ both (le (rain ⊞ (eff ⊞ sok)) floor) (floor ⊞ eff) (rain ⊞ (eff ⊞ sok)) (floor ⊞ eff) refl e
+floored_same K.Dipole rain eff sok e = floored_others K.Dipole rain eff sok refl ∙ both (le (rain ⊞ (eff ⊞ sok)) floor) (floor ⊞ eff) (rain ⊞ (eff ⊞ sok)) (floor ⊞ eff) refl e
+floored_same K.Yagi rain eff sok e = floored_others K.Yagi rain eff sok refl ∙ both (le (rain ⊞ (eff ⊞ sok)) floor) (floor ⊞ eff) (rain ⊞ (eff ⊞ sok)) (floor ⊞ eff) refl e
+floored_same K.LogPeriodic rain eff sok e = floored_others K.LogPeriodic rain eff sok refl ∙ both (le (rain ⊞ (eff ⊞ sok)) floor) (floor ⊞ eff) (rain ⊞ (eff ⊞ sok)) (floor ⊞ eff) refl e
+floored_same K.Curtain rain eff sok e = floored_others K.Curtain rain eff sok refl ∙ both (le (rain ⊞ (eff ⊞ sok)) floor) (floor ⊞ eff) (rain ⊞ (eff ⊞ sok)) (floor ⊞ eff) refl e
+floored_same K.SlopingVee rain eff sok e = floored_others K.SlopingVee rain eff sok refl ∙ both (le (rain ⊞ (eff ⊞ sok)) floor) (floor ⊞ eff) (rain ⊞ (eff ⊞ sok)) (floor ⊞ eff) refl e
+floored_same K.InvertedL rain eff sok e = floored_others K.InvertedL rain eff sok refl ∙ both (le (rain ⊞ (eff ⊞ sok)) floor) (floor ⊞ eff) (rain ⊞ (eff ⊞ sok)) (floor ⊞ eff) refl e
+floored_same K.SlopingRhombic rain eff sok e = floored_others K.SlopingRhombic rain eff sok refl ∙ both (le (rain ⊞ (eff ⊞ sok)) floor) (floor ⊞ eff) (rain ⊞ (eff ⊞ sok)) (floor ⊞ eff) refl e
+floored_same K.InterlacedRhombic rain eff sok e = floored_others K.InterlacedRhombic rain eff sok refl ∙ both (le (rain ⊞ (eff ⊞ sok)) floor) (floor ⊞ eff) (rain ⊞ (eff ⊞ sok)) (floor ⊞ eff) refl e
+floored_same K.Other rain eff sok e = floored_others K.Other rain eff sok refl ∙ both (le (rain ⊞ (eff ⊞ sok)) floor) (floor ⊞ eff) (rain ⊞ (eff ⊞ sok)) (floor ⊞ eff) refl e
+
 -- the gain on the ground is -30 plus the efficiency there
-pub ground_gain_lem : (kop : ℤ) (height : Float) → (ground_of kop height).gain ≡ floor ⊞ (ground_of kop height).efficiency
-unfolding ground_of floored
-ground_gain_lem kop height =
-    let eff = efficiency_of kop height (num 0 1) in
-    both (not (is_type kop 2) && le (floor ⊞ (eff ⊞ num 0 1)) floor) (floor ⊞ eff) (floor ⊞ (eff ⊞ num 0 1)) (floor ⊞ eff) refl (lowered_plus eff (efficiency_fits kop height))
+pub ground_gain_lem : (kind : Kind) (height : Float) → (ground_of kind height).gain ≡ floor ⊞ (ground_of kind height).efficiency
+unfolding ground_of
+ground_gain_lem kind height =
+    let eff = efficiency_of kind height (num 0 1) in
+    floored_same kind floor eff (num 0 1) (lowered_plus eff (efficiency_fits kind height))
 
 -- the efficiency on the ground depends on the height for types 2 and 5 alone
-pub efficiency_same_lem : (kop : ℤ) (h h' eff8 : Float) → (is_type kop 2 || is_type kop 5) ≡ false → efficiency_of kop h eff8 ≡ efficiency_of kop h' eff8
+pub efficiency_same_lem : (kind : Kind) (h h' eff8 : Float) → (is_kind kind 2 || is_kind kind 5) ≡ false → efficiency_of kind h eff8 ≡ efficiency_of kind h' eff8
 unfolding efficiency_of
-efficiency_same_lem kop h h' eff8 e = rw e refl
+efficiency_same_lem K.Rhombic h h' eff8 e = refl
+efficiency_same_lem K.Monopole h h' eff8 e = absurd (true≢false e)
+efficiency_same_lem K.Dipole h h' eff8 e = refl
+efficiency_same_lem K.Yagi h h' eff8 e = refl
+efficiency_same_lem K.LogPeriodic h h' eff8 e = absurd (true≢false e)
+efficiency_same_lem K.Curtain h h' eff8 e = refl
+efficiency_same_lem K.SlopingVee h h' eff8 e = refl
+efficiency_same_lem K.InvertedL h h' eff8 e = refl
+efficiency_same_lem K.SlopingRhombic h h' eff8 e = refl
+efficiency_same_lem K.InterlacedRhombic h h' eff8 e = refl
+efficiency_same_lem K.Other h h' eff8 e = refl
 
-pub ground_same_lem : (kop : ℤ) (h h' : Float) → (is_type kop 2 || is_type kop 5) ≡ false → ground_of kop h ≡ ground_of kop h'
+pub ground_same_lem : (kind : Kind) (h h' : Float) → (is_kind kind 2 || is_kind kind 5) ≡ false → ground_of kind h ≡ ground_of kind h'
 unfolding ground_of
-ground_same_lem kop h h' e = rw (efficiency_same_lem kop h h' (num 0 1) e) refl
+ground_same_lem kind h h' e = rw (efficiency_same_lem kind h h' (num 0 1) e) refl
 
 -- ---- outside type 2 a gain that is a number is above -30, or is -30 plus the efficiency
-pub floor_rule : (kop : ℤ) (rain eff sok : Float) → is_type kop 2 ≡ false
-    → (floored kop rain eff sok ≡ nan) ⊎ (T (lt floor (floored kop rain eff sok)) ⊎ (floored kop rain eff sok ≡ floor ⊞ eff))
-unfolding floored
-floor_rule kop rain eff sok e = rw e (by (le (rain ⊞ (eff ⊞ sok)) floor) refl)
+pub floor_rule : (kind : Kind) (rain eff sok : Float) → is_kind kind 2 ≡ false
+    → (floored kind rain eff sok ≡ nan) ⊎ (T (lt floor (floored kind rain eff sok)) ⊎ (floored kind rain eff sok ≡ floor ⊞ eff))
+floor_rule kind rain eff sok e = rw (floored_others kind rain eff sok e) (by (le (rain ⊞ (eff ⊞ sok)) floor) refl)
   where
     by : (b : Bool) → le (rain ⊞ (eff ⊞ sok)) floor ≡ b
         → (cond b (floor ⊞ eff) (rain ⊞ (eff ⊞ sok)) ≡ nan) ⊎ (T (lt floor (cond b (floor ⊞ eff) (rain ⊞ (eff ⊞ sok)))) ⊎ (cond b (floor ⊞ eff) (rain ⊞ (eff ⊞ sok)) ≡ floor ⊞ eff))

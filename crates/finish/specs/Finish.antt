@@ -1,10 +1,11 @@
 -- Document 01 section 5: `finish`. Definitions only.
-use Rattle.std.specs.Prelude.{not, ◌&&◌, ◌||◌, cond, ℤ, Float}
+use Rattle.std.specs.Prelude.{cond, Float}
 use Rattle.std.specs.Float.Ieee.{le, neg}
 use Rattle.single.specs.Single.{◌⊞◌, ◌⊟◌, ◌⊠◌, num}
 use Rattle.elementary.specs.Basic.{max_small}
 use Rattle.elementary.specs.Logarithm.{logarithm10}
-use Rattle.parameters.specs.Params.{is_type}
+use Rattle.parameters.specs.declared.kind.Kind.{Kind}
+use Rattle.parameters.specs.declared.kind.Kind.TheVariants as K
 use Rattle.finish.specs.declared.Finished.{Finished}
 
 -- FLOOR
@@ -24,19 +25,24 @@ monopole_efficiency x =
     ⊞ num 2564620146 100000000))
 
 -- label 610, by type
-unfoldable pub efficiency_of : ℤ → Float → Float → Float
-efficiency_of kop x eff8 =
-    cond (is_type kop 1 || is_type kop 7 || is_type kop 9 || is_type kop 10) (neg (num 17 10))
-    (cond (is_type kop 2 || is_type kop 5) (monopole_efficiency x)
-    (cond (is_type kop 8) eff8 (num 0 1)))
+unfoldable pub efficiency_of : Kind → Float → Float → Float
+efficiency_of K.Rhombic x eff8 = neg (num 17 10)
+efficiency_of K.SlopingVee x eff8 = neg (num 17 10)
+efficiency_of K.SlopingRhombic x eff8 = neg (num 17 10)
+efficiency_of K.InterlacedRhombic x eff8 = neg (num 17 10)
+efficiency_of K.Monopole x eff8 = monopole_efficiency x
+efficiency_of K.LogPeriodic x eff8 = monopole_efficiency x
+efficiency_of K.InvertedL x eff8 = eff8
+efficiency_of _ x eff8 = num 0 1
 
 -- label 405: rain plus (efficiency plus offset), then the floor, which type 2 alone has not
-unfoldable pub floored : ℤ → Float → Float → Float → Float
-floored kop rain eff sok =
+unfoldable pub floored : Kind → Float → Float → Float → Float
+floored K.Monopole rain eff sok = rain ⊞ (eff ⊞ sok)
+floored _ rain eff sok =
     let sum = rain ⊞ (eff ⊞ sok) in
-    cond (not (is_type kop 2) && le sum floor) (floor ⊞ eff) sum
+    cond (le sum floor) (floor ⊞ eff) sum
 
 -- `finish` at elevation 0 and below: the floor at the carried height, without offset, type 8's efficiency 0
-unfoldable pub ground_of : ℤ → Float → Finished
-ground_of kop height =
-    record { gain = floored kop floor (efficiency_of kop height (num 0 1)) (num 0 1); efficiency = efficiency_of kop height (num 0 1) }
+unfoldable pub ground_of : Kind → Float → Finished
+ground_of kind height =
+    record { gain = floored kind floor (efficiency_of kind height (num 0 1)) (num 0 1); efficiency = efficiency_of kind height (num 0 1) }

@@ -9,6 +9,8 @@ ghost use Rattle.finish.specs.Finish.{
   ground_of,
 };
 
+use parameters::Kind;
+
 // The least gain that is reported, dB.
 pub const FLOOR: f32 = -30.0;
 
@@ -35,38 +37,36 @@ fn monopole_efficiency(x: f32) -> f32
     }
 }
 
-// Label 610: by type. The inverted L has its own. 1, 7, 9 and 10 in one arm: tried, its proof needs an
-// order on the type's number.
-pub fn efficiency(kop: i32, x: f32, eff8: f32) -> f32
-    ensures { result ≡ efficiency_of kop x eff8 }
+// Label 610: by type. The inverted L has its own.
+pub fn efficiency(kind: Kind, x: f32, eff8: f32) -> f32
+    ensures { result ≡ efficiency_of kind x eff8 }
 {
-    match kop {
-        1 | 10 => -1.7,
-        2 | 5 => monopole_efficiency(x),
-        7 | 9 => -1.7,
-        8 => eff8,
+    match kind {
+        Kind::Rhombic | Kind::SlopingVee | Kind::SlopingRhombic | Kind::InterlacedRhombic => -1.7,
+        Kind::Monopole | Kind::LogPeriodic => monopole_efficiency(x),
+        Kind::InvertedL => eff8,
         _ => 0.0,
     }
 }
 
 // Label 405: efficiency and offset, then the floor, which type 2 alone has not.
-pub fn with_floor(kop: i32, rain: f32, eff: f32, sok: f32) -> f32
-    ensures { result ≡ floored kop rain eff sok }
+pub fn with_floor(kind: Kind, rain: f32, eff: f32, sok: f32) -> f32
+    ensures { result ≡ floored kind rain eff sok }
 {
     let sum = rain + (eff + sok);
-    match kop {
-        2 => sum,
+    match kind {
+        Kind::Monopole => sum,
         _ => { if sum <= FLOOR { FLOOR + eff } else { sum } }
     }
 }
 
 // The path at elevation 0 and below, at the carried height.
-pub fn ground_gain(kop: i32, height: f32) -> Finished
-    ensures { result ≡ ground_of kop height }
+pub fn ground_gain(kind: Kind, height: f32) -> Finished
+    ensures { result ≡ ground_of kind height }
 {
-    let efficiency = efficiency(kop, height, 0.0);
+    let efficiency = efficiency(kind, height, 0.0);
     Finished {
-        gain: with_floor(kop, FLOOR, efficiency, 0.0),
+        gain: with_floor(kind, FLOOR, efficiency, 0.0),
         efficiency,
     }
 }

@@ -1,13 +1,15 @@
 -- A type and its number say the same. Assumes nothing.
 use Prim.Native.Nat.{ℕ, ◌<◌, ◌≤◌}
-use mathlib.Core.Path.{◌≡◌, refl, sym, ap, subst}
+use mathlib.Core.Path.{◌≡◌, refl, sym, ap, subst, ◌∙◌}
 use mathlib.Core.Bool.{Bool, true, false}
 use native.Mathlib.Omega.{arith}
 use lib.Dec.{T, eqb, eqb→eq}
 use lib.IntN.{ℤ, pos, negsuc}
 use Rattle.std.proofs.lemmas.Bool.Decides.{nat_tests}
 use Rattle.parameters.specs.Params.{is_type}
-use Rattle.parameters.specs.Kind.{kind_of, is_kind}
+use Rattle.parameters.specs.Kind.{kind_of, number_of, is_kind}
+use Rattle.parameters.specs.declared.kind.Kind.{Kind}
+use Rattle.parameters.specs.declared.kind.Kind.TheVariants as K
 
 pub type_is : (number : ℤ) (n : ℕ) → is_type number n ≡ true → number ≡ pos n
 unfolding is_type
@@ -46,3 +48,27 @@ is_kind_lem number n low high =
     by_type number 9 (λ p. rw p refl) (λ t9.
     by_type number 10 (λ p. rw p refl) (λ t10.
     rw (t1, t2, t3, t4, t5, t6, t7, t8, t9, t10) (other number n low high t1 t2 t3 t4 t5 t6 t7 t8 t9 t10)))))))))))
+
+-- a type is told by its number
+pub kind_number : (kind : Kind) → kind_of (pos (number_of kind)) ≡ kind
+unfolding kind_of is_type
+kind_number K.Rhombic = refl
+kind_number K.Monopole = refl
+kind_number K.Dipole = refl
+kind_number K.Yagi = refl
+kind_number K.LogPeriodic = refl
+kind_number K.Curtain = refl
+kind_number K.SlopingVee = refl
+kind_number K.InvertedL = refl
+kind_number K.SlopingRhombic = refl
+kind_number K.InterlacedRhombic = refl
+kind_number K.Other = refl
+
+pub not_kind : (kind a : Kind) → (kind ≡ a → ⊥) → is_kind kind (number_of a) ≡ false
+not_kind kind a other = go (is_kind kind (number_of a)) refl
+  where
+    go : (b : Bool) → is_kind kind (number_of a) ≡ b → b ≡ false
+    go true t =
+        let same : number_of kind ≡ number_of a = eqb→eq (number_of kind) (number_of a) (subst T (sym t) tt) in
+        absurd (other (sym (kind_number kind) ∙ ap (λ (n : ℕ). kind_of (pos n)) same ∙ kind_number a))
+    go false t = refl

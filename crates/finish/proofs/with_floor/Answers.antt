@@ -1,18 +1,18 @@
-use Rattle.parameters.specs.Params.{is_type}
-use Rattle.parameters.proofs.Types.{is_type_lem, no_type}
-use borrow.Author.Rules.{rules}
+use Rattle.parameters.specs.declared.kind.Kind.TheVariants as K
+use Rattle.parameters.proofs.Numbers.{not_kind}
 use lib.Ieee.{round, of_bits, neg}
 use Rattle.finish.specs.Finish.{floored}
+use Rattle.finish.proofs.Laws.{floored_others}
 use Rattle.finish.proofs.with_floor.Goals as goal
 
-pub returns-in-2 : goal.returns-in-2
-unfolding floored round of_bits neg
-returns-in-2 c = unfold is_type in rw (is_type_lem c.args.kop (search rules) c.in-2.in-2-own.keys1)
+pub returns-in-Monopole : goal.returns-in-Monopole
+unfolding floored
+returns-in-Monopole c = rw c.in-Monopole.is
 
 pub returns-then-sum : goal.returns-then-sum
-unfolding floored round of_bits neg
-returns-then-sum c = rw (no_type _ 2 c.in_default.in_default-own.rest.1, c.if-sum.true)
+unfolding round of_bits neg
+returns-then-sum c = rw (floored_others c.args.kind c.args.rain c.args.eff c.args.sok (not_kind c.args.kind K.Monopole c.in_default.not-Monopole), c.if-sum.true)
 
 pub returns-else-sum : goal.returns-else-sum
-unfolding floored round of_bits neg
-returns-else-sum c = rw (no_type _ 2 c.in_default.in_default-own.rest.1, c.if-sum.false)
+unfolding round of_bits neg
+returns-else-sum c = rw (floored_others c.args.kind c.args.rain c.args.eff c.args.sok (not_kind c.args.kind K.Monopole c.in_default.not-Monopole), c.if-sum.false)
