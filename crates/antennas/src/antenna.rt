@@ -4,13 +4,13 @@ ghost use Rattle.antennas.specs.Antenna.{antenna_of, antenna_with};
 
 use angles::Azimuth;
 use lengths::Length;
-use parameters::{IoncapParams, Model};
+use parameters::{IoncapParams, Kind, Model};
 
 // The leg and the height by kind, read from the parameters' `anl` and `anh`. Type 2's `anh` stays a
 // plain gain.
 #[derive(Clone, Copy)]
 pub struct Antenna {
-    pub kop: i32,
+    pub kind: Kind,
     pub params: IoncapParams,
     pub leg: Length,
     pub height: Length,
@@ -20,18 +20,18 @@ pub struct Antenna {
 
 // The leg and the height as a card has read them.
 pub fn antenna_with(
-    kop: i32,
+    kind: Kind,
     toaz: f32,
     params: IoncapParams,
     leg: Length,
     height: Length,
     model: Model,
 ) -> Antenna
-    ensures { result ≡ antenna_with kop toaz params leg height model }
+    ensures { result ≡ antenna_with kind toaz params leg height model }
 {
     let azimuth = angles::azimuth_of(toaz);
     Antenna {
-        kop,
+        kind,
         params,
         leg,
         height,
@@ -41,10 +41,10 @@ pub fn antenna_with(
 }
 
 #[tactic(auto, unfolding(crate::specs::Antenna::antenna_of))]
-pub fn antenna_of(kop: i32, toaz: f32, params: IoncapParams, model: Model) -> Antenna
-    ensures { result ≡ antenna_of kop toaz params model }
+pub fn antenna_of(kind: Kind, toaz: f32, params: IoncapParams, model: Model) -> Antenna
+    ensures { result ≡ antenna_of kind toaz params model }
 {
     let leg = lengths::read_length(params.anl);
-    let height = lengths::read_height(kop, params.anh);
-    antenna_with(kop, toaz, params, leg, height, model)
+    let height = lengths::read_height(kind, params.anh);
+    antenna_with(kind, toaz, params, leg, height, model)
 }
