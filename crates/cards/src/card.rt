@@ -6,12 +6,12 @@ ghost use Rattle.cards.specs.Card.{card_of, antenna_for};
 use crate::fields::Fields;
 use antennas::Antenna;
 use lengths::Length;
-use parameters::{IoncapParams, Model};
+use parameters::{IoncapParams, Kind, Model};
 
 // `params` are the slots as `ioninit` reads them, `toaz` the off-azimuth in degrees.
 #[derive(Clone, Copy)]
 pub struct Card {
-    pub kop: i32,
+    pub kind: Kind,
     pub first: i32,
     pub last: i32,
     pub toaz: f32,
@@ -32,15 +32,16 @@ pub fn read_card(fields: Fields) -> Card
         slots,
         model,
     } = fields;
+    let kind = Kind::from(kop);
     let params = parameters::ioninit(kop, &slots);
     Card {
-        kop,
+        kind,
         first,
         last,
         toaz,
         params,
         leg: lengths::read_length(params.anl),
-        height: lengths::read_height(kop, params.anh),
+        height: lengths::read_height(kind, params.anh),
         model,
     }
 }
@@ -50,7 +51,7 @@ pub fn card_antenna(card: Card) -> Antenna
     ensures { result ≡ antenna_for card }
 {
     let Card {
-        kop,
+        kind,
         toaz,
         params,
         leg,
@@ -58,5 +59,5 @@ pub fn card_antenna(card: Card) -> Antenna
         model,
         ..
     } = card;
-    antennas::antenna_with(kop, toaz, params, leg, height, model)
+    antennas::antenna_with(kind, toaz, params, leg, height, model)
 }
