@@ -1,8 +1,9 @@
 -- Document 01 section 4: the choice of pattern by type, as the match of `iongain2`. Definitions only.
-use Rattle.std.specs.Prelude.{Bool, true, cond, ◌||◌, ℤ, get_or, Float, Option, Some}
+use Rattle.std.specs.Prelude.{Bool, true, get_or, Float, Option, Some}
 use Rattle.std.specs.Float.{nan}
 use Rattle.single.specs.Single.{num}
-use Rattle.parameters.specs.Params.{is_type}
+use Rattle.parameters.specs.declared.kind.Kind.{Kind}
+use Rattle.parameters.specs.declared.kind.Kind.TheVariants as K
 use Rattle.lengths.specs.Length.{leg_of, phase_of, height_turn}
 use Rattle.lengths.specs.declared.length.LegInWaves.{LegInWaves}
 use Rattle.lengths.specs.declared.length.PhaseInWaves.{PhaseInWaves}
@@ -42,36 +43,43 @@ monopole_for leg wave = settled_map (λ row. P.Vertical row) (monopole_row leg w
 unfoldable pub inverted_l_of : Float → Float → Option (Settled Pattern)
 inverted_l_of fac hwave = settled_map (λ row. P.Inverted row) (inverted_l_row fac hwave)
 
+-- the legs of a sloping antenna, in wavelengths
+abbrev pub sloping_of : Antenna → Float → LegInWaves → PhaseInWaves → SlopingLegs
+sloping_of antenna wave leg height =
+    record { aex1 = get_or antenna.params.aex 0 nan; wave = wave; leg = leg; height = height; phi = antenna.params.and; azimuth = antenna.azimuth }
+
 -- what a row at this wavelength takes, by type, of its leg and height in wavelengths
-abbrev pub pattern_by : ℤ → Antenna → Float → LegInWaves → PhaseInWaves → Option (Settled Pattern)
-pattern_by kop antenna wave leg height =
-    let phi = antenna.params.and in
+abbrev pub pattern_by : Kind → Antenna → Float → LegInWaves → PhaseInWaves → Option (Settled Pattern)
+pattern_by K.Rhombic antenna wave leg height = settled_at (P.Rhombic (legs_of antenna.params.and antenna.azimuth leg.fac height.phase))
+pattern_by K.InterlacedRhombic antenna wave leg height =
     let aex = antenna.params.aex in
-    let azimuth = antenna.azimuth in
-    let fac = leg.fac in
-    let hwave = height.phase in
-    let sloping : SlopingLegs = record { aex1 = get_or aex 0 nan; wave = wave; leg = leg; height = height; phi = phi; azimuth = azimuth } in
-    cond (is_type kop 1) (settled_at (P.Rhombic (legs_of phi azimuth fac hwave)))
-    (cond (is_type kop 10) (settled_at (P.Interlaced (legs_of phi azimuth fac hwave) (offset_of (get_or aex 0 nan) (get_or aex 1 nan) wave)))
-    (cond (is_type kop 8) (inverted_l_of fac hwave)
-    (cond (is_type kop 7) (settled_at (P.Vee (vee_slope sloping)))
-    (cond (is_type kop 9) (settled_at (P.SlopingRhombic (rhombic_slope sloping)))
-    (cond (is_type kop 6) (settled_at (P.Curtain (card_of phi (get_or aex 0 nan)) (row_of fac height.waves aex azimuth wave)))
-    (cond (is_type kop 3 || is_type kop 4) (dipole_of fac hwave)
-    (cond (is_type kop 2 || is_type kop 5) (monopole_for antenna.leg wave)
-    (settled_at P.Other))))))))
+    settled_at (P.Interlaced (legs_of antenna.params.and antenna.azimuth leg.fac height.phase) (offset_of (get_or aex 0 nan) (get_or aex 1 nan) wave))
+pattern_by K.InvertedL antenna wave leg height = inverted_l_of leg.fac height.phase
+pattern_by K.SlopingVee antenna wave leg height = settled_at (P.Vee (vee_slope (sloping_of antenna wave leg height)))
+pattern_by K.SlopingRhombic antenna wave leg height = settled_at (P.SlopingRhombic (rhombic_slope (sloping_of antenna wave leg height)))
+pattern_by K.Curtain antenna wave leg height =
+    let aex = antenna.params.aex in
+    settled_at (P.Curtain (card_of antenna.params.and (get_or aex 0 nan)) (row_of leg.fac height.waves aex antenna.azimuth wave))
+pattern_by K.Dipole antenna wave leg height = dipole_of leg.fac height.phase
+pattern_by K.Yagi antenna wave leg height = dipole_of leg.fac height.phase
+pattern_by K.Monopole antenna wave leg height = monopole_for antenna.leg wave
+pattern_by K.LogPeriodic antenna wave leg height = monopole_for antenna.leg wave
+pattern_by K.Other antenna wave leg height = settled_at P.Other
 
 unfoldable pub pattern_of : Antenna → Float → Option (Settled Pattern)
-pattern_of antenna wave = pattern_by antenna.kop antenna wave (leg_of antenna.leg wave) (phase_of height_turn antenna.height wave)
+pattern_of antenna wave = pattern_by antenna.kind antenna wave (leg_of antenna.leg wave) (phase_of height_turn antenna.height wave)
 
 -- types 3 and 4, 2 and 5, and 8 take integrals; any other settles
+abbrev pub settles_by : Kind → Antenna → Float → Bool
+settles_by K.Dipole antenna wave = dipole_settles (leg_of antenna.leg wave).fac
+settles_by K.Yagi antenna wave = dipole_settles (leg_of antenna.leg wave).fac
+settles_by K.Monopole antenna wave = monopole_settles antenna.leg wave
+settles_by K.LogPeriodic antenna wave = monopole_settles antenna.leg wave
+settles_by K.InvertedL antenna wave = inverted_l_settles (phase_of height_turn antenna.height wave).phase
+settles_by _ antenna wave = true
+
 unfoldable pub pattern_settles : Antenna → Float → Bool
-pattern_settles antenna wave =
-    let kop = antenna.kop in
-    cond (is_type kop 3 || is_type kop 4) (dipole_settles (leg_of antenna.leg wave).fac)
-    (cond (is_type kop 2 || is_type kop 5) (monopole_settles antenna.leg wave)
-    (cond (is_type kop 8) (inverted_l_settles (phase_of height_turn antenna.height wave).phase)
-    true))
+pattern_settles antenna wave = settles_by antenna.kind antenna wave
 
 -- `rain` before label 385. The curtain's is in dB already: see `curtain_cell`, cells/specs/Cell.antt
 unfoldable pub power_of : Pattern → Azimuth → Elevation → Ground → Float

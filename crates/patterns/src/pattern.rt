@@ -14,6 +14,7 @@ use integrals::{Settled, Turns};
 use interlaced::Offset;
 use inverted_l::InvertedL;
 use lengths::{HEIGHT_TURN, Length};
+use parameters::Kind;
 use reflection::Ground;
 use rhombics::Legs;
 use slopes::{Slope, SlopingLegs};
@@ -69,7 +70,7 @@ pub fn pattern_of(antenna: Antenna, wave: f32) -> Option<Settled<Pattern>>
     ensures { IsAnswer unsettled_number (settled_value P.Other) P.Other 11 (pattern_of antenna wave) (pattern_settles antenna wave) result }
 {
     let Antenna {
-        kop,
+        kind,
         params,
         leg,
         height,
@@ -90,25 +91,22 @@ pub fn pattern_of(antenna: Antenna, wave: f32) -> Option<Settled<Pattern>>
         phi,
         azimuth,
     };
-    match kop {
-        1 => settled(Pattern::Rhombic(rhombics::legs_of(phi, azimuth, fac, hwave))),
-        10 => settled(Pattern::Interlaced(
+    match kind {
+        Kind::Rhombic => settled(Pattern::Rhombic(rhombics::legs_of(phi, azimuth, fac, hwave))),
+        Kind::InterlacedRhombic => settled(Pattern::Interlaced(
             rhombics::legs_of(phi, azimuth, fac, hwave),
             interlaced::offset_of(aex[0], aex[1], wave),
         )),
-        8 => inverted_l_of(fac, hwave),
-        7 => settled(Pattern::Vee(sloping.vee_slope())),
-        9 => settled(Pattern::SlopingRhombic(sloping.rhombic_slope())),
-        6 => settled(Pattern::Curtain(
+        Kind::InvertedL => inverted_l_of(fac, hwave),
+        Kind::SlopingVee => settled(Pattern::Vee(sloping.vee_slope())),
+        Kind::SlopingRhombic => settled(Pattern::SlopingRhombic(sloping.rhombic_slope())),
+        Kind::Curtain => settled(Pattern::Curtain(
             curtain::curtain_card(phi, aex[0]),
             curtain::curtain_row(fac, above.waves, aex, azimuth, wave),
         )),
-        // `3 | 4` and `2 | 5`: tried, the proof didn't close
-        3 => dipole_of(fac, hwave),
-        4 => dipole_of(fac, hwave),
-        2 => monopole_of(leg, wave),
-        5 => monopole_of(leg, wave),
-        _ => settled(Pattern::Other),
+        Kind::Dipole | Kind::Yagi => dipole_of(fac, hwave),
+        Kind::Monopole | Kind::LogPeriodic => monopole_of(leg, wave),
+        Kind::Other => settled(Pattern::Other),
     }
 }
 
