@@ -2,12 +2,11 @@
 use mathlib.Core.Path.{◌≡◌, refl, ap, ◌∙◌}
 use mathlib.Core.Bool.{cond}
 use lib.Dec.{T}
-use lib.IntN.{pos}
 use lib.Ieee.{Float, binary32, fits, le, add, neg, round}
 use Rattle.single.specs.Single.{◌⊞◌, num}
 use Rattle.single.proofs.Floor.{lowered_plus}
 use Rattle.rhombics.proofs.Sum.{⊞_comm}
-use Rattle.parameters.specs.Params.{is_type}
+use Rattle.parameters.specs.declared.kind.Kind.TheVariants as K
 use Rattle.curtain.specs.Gain.{rain_of, sok_of}
 use Rattle.curtain.specs.declared.gain.CurtainGain.TheVariants.{Floor}
 use Rattle.finish.specs.Finish.{floor, efficiency_of, floored}
@@ -17,8 +16,8 @@ unfolding add neg round
 floor_plus_zero = refl
 
 pub curtain_floor : (slot x eff8 : Float) → T (fits binary32 slot)
-    → floored (pos 6) (rain_of Floor) (efficiency_of (pos 6) x eff8) (sok_of Floor slot) ≡ cond (le (floor ⊞ slot) floor) floor (floor ⊞ slot)
-unfolding floored rain_of sok_of efficiency_of is_type
+    → floored K.Curtain (rain_of Floor) (efficiency_of K.Curtain x eff8) (sok_of Floor slot) ≡ cond (le (floor ⊞ slot) floor) floor (floor ⊞ slot)
+unfolding floored rain_of sok_of efficiency_of
 curtain_floor slot x eff8 h =
     let count : floor ⊞ (num 0 1 ⊞ slot) ≡ floor ⊞ slot = ap (λ (y : Float). floor ⊞ y) (⊞_comm (num 0 1) slot) ∙ lowered_plus slot h in
     rw (count, floor_plus_zero) refl

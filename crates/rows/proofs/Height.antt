@@ -1,10 +1,9 @@
 -- The height that a row leaves: the type's own, and finite within the limits. Assumes nothing.
 use mathlib.Core.Path.{◌≡◌, refl}
-use mathlib.Core.Bool.{Bool, true, false, ◌||◌, cond}
+use mathlib.Core.Bool.{Bool, true, false, cond}
 use Prim.Native.Nat.{ℕ, ◌*◌, ◌^◌, ◌≤◌}
 use native.Mathlib.Omega.{arith}
 use lib.Dec.{T, eqb, lit≤, eqb→eq}
-use lib.IntN.{ℤ}
 use native.Mathlib.Nat.{mul-one}
 use lib.Ieee.{Float, up, down, nan, inf, fin, lt, le, eq, neg, round}
 use lib.Ieee.Fits.{and_r, down_pos}
@@ -15,7 +14,8 @@ use Rattle.single.proofs.Bounded.{AtLeast, div_mag, div_least}
 use Rattle.elementary.specs.Basic.{absolute}
 use Rattle.limits.specs.Tests.{outside}
 use Rattle.limits.proofs.Outside.{within_mag}
-use Rattle.parameters.specs.Params.{is_type}
+use Rattle.parameters.specs.declared.kind.Kind.{Kind}
+use Rattle.parameters.specs.declared.kind.Kind.TheVariants as K
 use Rattle.std.specs.Prelude.{Option, Some, None}
 use Rattle.lengths.specs.Length.{length_of, in_waves, phase_of, monopole_turn}
 use Rattle.lengths.specs.declared.length.Length.TheVariants.{Metres, Wavelengths}
@@ -76,13 +76,28 @@ length_finite v wave m w = go (lt v (num 0 1))
     go true = unfold phase_of in mag_finite 1000 (neg v) (neg_mag v 1000 m)
     go false = metres_finite v wave m w
 
-pub height_finite : (kop : ℤ) (v fmc : Float) → outside v ≡ false → T (le (num 1 1) fmc) → T (le fmc (num 30 1)) → T (finite (height_for kop (length_of v) (wave_of fmc)))
+pub height_finite : (kind : Kind) (v fmc : Float) → outside v ≡ false → T (le (num 1 1) fmc) → T (le fmc (num 30 1)) → T (finite (height_for kind (length_of v) (wave_of fmc)))
 unfolding height_for
-height_finite kop v fmc o low high = go (is_type kop 2 || is_type kop 5)
+height_finite kind v fmc o low high = go kind
   where
-    go : (b : Bool) → T (finite (cond b (phase_of monopole_turn (length_of v) (wave_of fmc)).waves (num 1 1)))
-    go true = length_finite v (wave_of fmc) (within_mag v o) (wave_least fmc (mhz_mag fmc low high))
-    go false = unfold round in tt
+    own : T (finite (phase_of monopole_turn (length_of v) (wave_of fmc)).waves)
+    own = length_finite v (wave_of fmc) (within_mag v o) (wave_least fmc (mhz_mag fmc low high))
+
+    one : T (finite (num 1 1))
+    one = unfold round in tt
+
+    go : (kind : Kind) → T (finite (height_for kind (length_of v) (wave_of fmc)))
+    go K.Rhombic = one
+    go K.Monopole = own
+    go K.Dipole = one
+    go K.Yagi = one
+    go K.LogPeriodic = own
+    go K.Curtain = one
+    go K.SlopingVee = one
+    go K.InvertedL = one
+    go K.SlopingRhombic = one
+    go K.InterlacedRhombic = one
+    go K.Other = one
 
 -- ---- a settled row has its antenna's type and leaves the type's height
 abbrev pub OfRow : (Row → Type 0) → Option (Settled Row) → Type 0
@@ -90,7 +105,7 @@ OfRow P (Some row) = P row.value
 OfRow P None = Unit {0}
 
 abbrev pub Own : Antenna → Float → Row → Type 0
-Own antenna fmc row = (row.kop ≡ antenna.kop) × (row.x ≡ height_for antenna.kop antenna.leg (wave_of fmc))
+Own antenna fmc row = (row.kind ≡ antenna.kind) × (row.x ≡ height_for antenna.kind antenna.leg (wave_of fmc))
 
 pub row_own : (antenna : Antenna) (fmc : Float) → OfRow (Own antenna fmc) (row_of antenna fmc)
 unfolding row_of

@@ -1,8 +1,9 @@
 -- Document 01 sections 4 to 6: what `iongain2` takes from the antenna and the MHz alone. Definitions only.
-use Rattle.std.specs.Prelude.{cond, ◌||◌, ℤ, pos, get_or, Float, Option}
+use Rattle.std.specs.Prelude.{get_or, Float, Option}
 use Rattle.std.specs.Float.{nan}
 use Rattle.single.specs.Single.{num}
-use Rattle.parameters.specs.Params.{is_type}
+use Rattle.parameters.specs.declared.kind.Kind.{Kind}
+use Rattle.parameters.specs.declared.kind.Kind.TheVariants as K
 use Rattle.lengths.specs.Length.{phase_of, monopole_turn}
 use Rattle.parameters.specs.Model.{curtain_elevation_threshold}
 use Rattle.lengths.specs.declared.length.Length.{Length}
@@ -19,13 +20,18 @@ use Rattle.integrals.specs.declared.settled.Settled.{Settled}
 use Rattle.rows.specs.declared.row.Row.{Row}
 
 -- `sok`: type 2's gain, nothing for 7, 9 and 10, else the first extra
-unfoldable pub sok_for : ℤ → IoncapParams → Float
-sok_for kop params =
-    cond (is_type kop 2) params.anh (cond (is_type kop 7 || is_type kop 9 || is_type kop 10) (num 0 1) (get_or params.aex 0 nan))
+unfoldable pub sok_for : Kind → IoncapParams → Float
+sok_for K.Monopole params = params.anh
+sok_for K.SlopingVee params = num 0 1
+sok_for K.SlopingRhombic params = num 0 1
+sok_for K.InterlacedRhombic params = num 0 1
+sok_for _ params = get_or params.aex 0 nan
 
 -- `x`, the height that a cell above the ground leaves: in wavelengths for types 2 and 5, else 1
-unfoldable pub height_for : ℤ → Length → Float → Float
-height_for kop leg wave = cond (is_type kop 2 || is_type kop 5) (phase_of monopole_turn leg wave).waves (num 1 1)
+unfoldable pub height_for : Kind → Length → Float → Float
+height_for K.Monopole leg wave = (phase_of monopole_turn leg wave).waves
+height_for K.LogPeriodic leg wave = (phase_of monopole_turn leg wave).waves
+height_for _ leg wave = num 1 1
 
 -- `eff8`: the inverted L's, else 0
 unfoldable pub eff8_for : Pattern → Float
@@ -41,14 +47,14 @@ eff8_for P.Other = num 0 1
 
 abbrev pub row_from : Antenna → Float → Pattern → Row
 row_from antenna fmc pattern =
-    let kop = antenna.kop in
-    let x = height_for kop antenna.leg (wave_of fmc) in
+    let kind = antenna.kind in
+    let x = height_for kind antenna.leg (wave_of fmc) in
     record {
-      kop = kop;
+      kind = kind;
       pattern = pattern;
       soil = soil_of antenna.params.asig antenna.params.aeps fmc;
-      eff = efficiency_of kop x (eff8_for pattern);
-      sok = sok_for kop antenna.params;
+      eff = efficiency_of kind x (eff8_for pattern);
+      sok = sok_for kind antenna.params;
       x = x;
       threshold = curtain_elevation_threshold antenna.model;
     }
@@ -61,7 +67,7 @@ abbrev pub zero_row : Row
 zero_row =
     let o = num 0 1 in
     record {
-      kop = pos 0;
+      kind = K.Other;
       pattern = P.Other;
       soil = record { er = o; x = o; u = o; v = o; asxv = o };
       eff = o;

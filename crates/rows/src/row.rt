@@ -9,7 +9,7 @@ ghost use Rattle.rows.specs.Row.{sok_for, height_for, eff8_for, row_of, zero_row
 use antennas::Antenna;
 use integrals::Settled;
 use lengths::{Length, MONOPOLE_TURN};
-use parameters::IoncapParams;
+use parameters::{IoncapParams, Kind};
 use patterns::{Pattern, pattern_of};
 use reflection::Soil;
 
@@ -17,7 +17,7 @@ use reflection::Soil;
 // `threshold` how near to the vertical that floor begins.
 #[derive(Clone, Copy)]
 pub struct Row {
-    pub kop: i32,
+    pub kind: Kind,
     pub pattern: Pattern,
     pub soil: Soil,
     pub eff: f32,
@@ -27,25 +27,24 @@ pub struct Row {
 }
 
 // `sok`.
-fn sok_for(kop: i32, params: IoncapParams) -> f32
-    ensures { result ≡ sok_for kop params }
+fn sok_for(kind: Kind, params: IoncapParams) -> f32
+    ensures { result ≡ sok_for kind params }
 {
-    match kop {
-        2 => params.anh,
-        // `7 | 9 | 10`: tried, the proof didn't close
-        7 => 0.0,
-        9 => 0.0,
-        10 => 0.0,
+    match kind {
+        Kind::Monopole => params.anh,
+        Kind::SlopingVee | Kind::SlopingRhombic | Kind::InterlacedRhombic => 0.0,
         _ => params.aex[0],
     }
 }
 
 // `x`.
-fn height_for(kop: i32, leg: Length, wave: f32) -> f32
-    ensures { result ≡ height_for kop leg wave }
+fn height_for(kind: Kind, leg: Length, wave: f32) -> f32
+    ensures { result ≡ height_for kind leg wave }
 {
-    match kop {
-        2 | 5 => lengths::phase_in_waves(MONOPOLE_TURN, leg, wave).waves,
+    match kind {
+        Kind::Monopole | Kind::LogPeriodic => {
+            lengths::phase_in_waves(MONOPOLE_TURN, leg, wave).waves
+        }
         _ => 1.0,
     }
 }
@@ -67,20 +66,20 @@ pub fn row_of(antenna: Antenna, fmc: f32) -> Option<Settled<Row>>
     let wave = angles::wave_of(fmc);
     let pattern = pattern_of(antenna, wave)?;
     let Antenna {
-        kop,
+        kind,
         params,
         leg,
         model,
         ..
     } = antenna;
-    let x = height_for(kop, leg, wave);
+    let x = height_for(kind, leg, wave);
     let eff8 = eff8_for(pattern.value);
     let row = Row {
-        kop,
+        kind,
         pattern: pattern.value,
         soil: reflection::soil_of(params.asig, params.aeps, fmc),
-        eff: finish::efficiency(kop, x, eff8),
-        sok: sok_for(kop, params),
+        eff: finish::efficiency(kind, x, eff8),
+        sok: sok_for(kind, params),
         x,
         threshold: parameters::curtain_elevation_threshold(model),
     };

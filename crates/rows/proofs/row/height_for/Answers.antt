@@ -1,18 +1,34 @@
+use mathlib.Core.Path.{◌≡◌, refl, ap}
 use mathlib.Core.Logic.{inl, inr}
-use lib.Ieee.{round, of_bits}
-use Rattle.parameters.specs.Params.{is_type}
-use Rattle.parameters.proofs.Types.{is_type_lem, no_type}
+use lib.Ieee.{Float, round, of_bits}
+use Rattle.single.specs.Single.{num}
+use Rattle.parameters.specs.declared.kind.Kind.{Kind}
+use Rattle.parameters.specs.declared.kind.Kind.TheVariants as K
+use Rattle.lengths.specs.declared.length.Length.{Length}
+use Rattle.lengths.specs.declared.length.PhaseInWaves.{PhaseInWaves}
 use Rattle.rows.specs.Row.{height_for}
-use borrow.Author.Rules.{rules}
 use Rattle.rows.proofs.row.height_for.Goals as goal
 
-pub returns-in-2 : goal.returns-in-2
-unfolding height_for is_type round of_bits
-returns-in-2 c = elim c.in-2.in-2-own.keys1 [
-  | inl k ↦ rw (is_type_lem c.args.kop (search rules) k) (rw (← c.phase_in_waves.ensures))
-  | inr k ↦ rw (is_type_lem c.args.kop (search rules) k) (rw (← c.phase_in_waves.ensures))
-]
+pub returns-in-Monopole : goal.returns-in-Monopole
+unfolding height_for round of_bits
+returns-in-Monopole c =
+    let waves = ap (λ (p : PhaseInWaves). p.waves) c.phase_in_waves.ensures in
+    elim c.in-Monopole.is [ inl e ↦ rw e waves | inr e ↦ rw e waves ]
+
+others : (kind : Kind) (leg : Length) (wave : Float) → (kind ≡ K.Monopole → ⊥) → (kind ≡ K.LogPeriodic → ⊥) → num 1 1 ≡ height_for kind leg wave
+unfolding height_for
+others K.Rhombic leg wave n2 n5 = refl
+others K.Monopole leg wave n2 n5 = absurd (n2 refl)
+others K.Dipole leg wave n2 n5 = refl
+others K.Yagi leg wave n2 n5 = refl
+others K.LogPeriodic leg wave n2 n5 = absurd (n5 refl)
+others K.Curtain leg wave n2 n5 = refl
+others K.SlopingVee leg wave n2 n5 = refl
+others K.InvertedL leg wave n2 n5 = refl
+others K.SlopingRhombic leg wave n2 n5 = refl
+others K.InterlacedRhombic leg wave n2 n5 = refl
+others K.Other leg wave n2 n5 = refl
 
 pub returns-in_default : goal.returns-in_default
-unfolding height_for round of_bits
-returns-in_default c = let r = c.in_default.in_default-own.rest in rw (no_type _ 2 (λ k. r.1 (inl k)), no_type _ 5 (λ k. r.1 (inr k)))
+unfolding round of_bits
+returns-in_default c = others c.args.kind c.args.leg c.args.wave c.in_default.not-Monopole c.in_default.not-LogPeriodic

@@ -1,34 +1,36 @@
-use Rattle.parameters.specs.Params.{is_type}
-use Rattle.parameters.proofs.Types.{is_type_lem, no_type}
+use mathlib.Core.Path.{◌≡◌, refl}
+use mathlib.Core.Logic.{inl, inr}
+use Rattle.std.specs.Prelude.{get_or}
+use Rattle.std.specs.Float.{nan}
 use lib.Ieee.{round, of_bits}
-use Prim.Native.Nat.{ℕ}
-use mathlib.Core.Path.{◌≡◌}
-use mir.Syntax.{w32}
-use mir.Val.{of_z, to_z}
+use Rattle.parameters.specs.declared.kind.Kind.{Kind}
+use Rattle.parameters.specs.declared.kind.Kind.TheVariants as K
+use Rattle.parameters.specs.declared.params.IoncapParams.{IoncapParams}
 use Rattle.rows.specs.Row.{sok_for}
-use borrow.Author.Rules.{rules}
 use Rattle.rows.proofs.row.sok_for.Goals as goal
-use Rattle.rows.proofs.row.sok_for.Goals.{Start}
 
-typed : (c : Start) {n : ℕ} → of_z w32 c.args.kop ≡ n → c.args.kop ≡ to_z w32 n
-typed c = is_type_lem c.args.kop (search rules)
+pub returns-in-Monopole : goal.returns-in-Monopole
+unfolding sok_for
+returns-in-Monopole c = rw c.in-Monopole.is
+
+pub returns-in-SlopingVee : goal.returns-in-SlopingVee
+unfolding sok_for round of_bits
+returns-in-SlopingVee c = elim c.in-SlopingVee.is [ inl e ↦ rw e | inr (inl e) ↦ rw e | inr (inr e) ↦ rw e ]
+
+others : (kind : Kind) (params : IoncapParams) → (kind ≡ K.Monopole → ⊥) → (kind ≡ K.SlopingVee → ⊥) → (kind ≡ K.SlopingRhombic → ⊥) → (kind ≡ K.InterlacedRhombic → ⊥)
+    → sok_for kind params ≡ get_or params.aex 0 nan
+unfolding sok_for
+others K.Rhombic params n2 n7 n9 n10 = refl
+others K.Monopole params n2 n7 n9 n10 = absurd (n2 refl)
+others K.Dipole params n2 n7 n9 n10 = refl
+others K.Yagi params n2 n7 n9 n10 = refl
+others K.LogPeriodic params n2 n7 n9 n10 = refl
+others K.Curtain params n2 n7 n9 n10 = refl
+others K.SlopingVee params n2 n7 n9 n10 = absurd (n7 refl)
+others K.InvertedL params n2 n7 n9 n10 = refl
+others K.SlopingRhombic params n2 n7 n9 n10 = absurd (n9 refl)
+others K.InterlacedRhombic params n2 n7 n9 n10 = absurd (n10 refl)
+others K.Other params n2 n7 n9 n10 = refl
 
 pub returns-in_default : goal.returns-in_default
-unfolding sok_for
-returns-in_default c = let r = c.in_default.in_default-own.rest in rw (no_type _ 2 r.0.0.0.1, no_type _ 7 r.0.0.1, no_type _ 9 r.0.1, no_type _ 10 r.1)
-
-pub returns-in-2 : goal.returns-in-2
-unfolding sok_for is_type round of_bits
-returns-in-2 c = rw (typed c.before c.in-2.in-2-own.keys1)
-
-pub returns-in-7 : goal.returns-in-7
-unfolding sok_for is_type round of_bits
-returns-in-7 c = rw (typed c.before c.in-7.in-7-own.keys2)
-
-pub returns-in-9 : goal.returns-in-9
-unfolding sok_for is_type round of_bits
-returns-in-9 c = rw (typed c.before c.in-9.in-9-own.keys3)
-
-pub returns-in-10 : goal.returns-in-10
-unfolding sok_for is_type round of_bits
-returns-in-10 c = rw (typed c.before c.in-10.in-10-own.keys4)
+returns-in_default c = let d = c.in_default in rw (others c.args.kind c.args.params d.not-Monopole d.not-SlopingVee d.not-SlopingRhombic d.not-InterlacedRhombic)
