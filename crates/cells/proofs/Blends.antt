@@ -1,11 +1,21 @@
--- What `blends_with_zenith` answers of a type, which the machine reads back from its 32 bits. Assumes nothing.
-use mathlib.Core.Path.{◌≡◌, ap, ◌∙◌}
-use mathlib.Core.Bool.{Bool}
-use lib.IntN.{ℤ}
-use mir.Syntax.{w32}
-use mir.Val.{SFits, of_z, to_z}
-use mir.ValLaws.{to_z-of_z}
+-- The types that blend with the zenith are 3 and 4. Assumes nothing.
+use mathlib.Core.Path.{◌≡◌, refl}
+use mathlib.Core.Bool.{◌||◌}
+use Rattle.parameters.specs.Kind.{is_kind}
+use Rattle.parameters.specs.declared.kind.Kind.{Kind}
+use Rattle.parameters.specs.declared.kind.Kind.TheVariants as K
 use Rattle.cells.specs.Cell.{blends_with_zenith}
 
-pub blends_read : (kop : ℤ) {answer : Bool} → SFits w32 kop → answer ≡ blends_with_zenith (to_z w32 (of_z w32 kop)) → answer ≡ blends_with_zenith kop
-blends_read kop f e = e ∙ ap blends_with_zenith (to_z-of_z w32 kop f)
+pub blends_kind : (kind : Kind) → blends_with_zenith kind ≡ (is_kind kind 3 || is_kind kind 4)
+unfolding blends_with_zenith
+blends_kind K.Rhombic = refl
+blends_kind K.Monopole = refl
+blends_kind K.Dipole = refl
+blends_kind K.Yagi = refl
+blends_kind K.LogPeriodic = refl
+blends_kind K.Curtain = refl
+blends_kind K.SlopingVee = refl
+blends_kind K.InvertedL = refl
+blends_kind K.SlopingRhombic = refl
+blends_kind K.InterlacedRhombic = refl
+blends_kind K.Other = refl

@@ -1,8 +1,9 @@
 -- Document 01 sections 4 and 6: a cell above the ground. Definitions only.
-use Rattle.std.specs.Prelude.{Bool, cond, ◌||◌, ℤ, Float}
+use Rattle.std.specs.Prelude.{Bool, true, false, cond, Float}
 use Rattle.single.specs.Single.{◌⊞◌, ◌⊟◌, ◌⊠◌, num}
 use Rattle.elementary.specs.Trigonometric.{sine, cosine}
-use Rattle.parameters.specs.Params.{is_type}
+use Rattle.parameters.specs.declared.kind.Kind.{Kind}
+use Rattle.parameters.specs.declared.kind.Kind.TheVariants as K
 use Rattle.angles.specs.Angles.{right_angle, azimuth_of, elevation_of}
 use Rattle.reflection.specs.Ground.{reflect_of}
 use Rattle.angles.specs.declared.angles.Azimuth.{Azimuth}
@@ -20,13 +21,13 @@ use Rattle.rows.specs.declared.row.Row.{Row}
 -- a power, taken to dB
 unfoldable pub power_cell : Row → Azimuth → Elevation → Float
 power_cell row azimuth e =
-    floored row.kop (decibels_of (power_of row.pattern azimuth e (reflect_of row.soil e))) row.eff row.sok
+    floored row.kind (decibels_of (power_of row.pattern azimuth e (reflect_of row.soil e))) row.eff row.sok
 
 -- the curtain, which is in dB and has its offset at the floor alone
 unfoldable pub curtain_cell : CurtainCard → CurtainRow → Row → Azimuth → Float → Elevation → Float
 curtain_cell card spacings row azimuth delta e =
     let gain = Curtain.cell_of card spacings azimuth row.soil delta e row.threshold in
-    floored row.kop (rain_of gain) row.eff (sok_of gain row.sok)
+    floored row.kind (rain_of gain) row.eff (sok_of gain row.sok)
 
 abbrev pub cell_by : Pattern → Row → Azimuth → Float → Elevation → Float
 cell_by (P.Rhombic legs) row azimuth delta e = power_cell row azimuth e
@@ -56,10 +57,12 @@ unfoldable pub blend_of : Elevation → Float → Float → Float
 blend_of e zenith rain = zenith ⊠ e.s ⊞ rain ⊠ (num 1 1 ⊟ e.s)
 
 -- types 3 and 4
-unfoldable pub blends_with_zenith : ℤ → Bool
-blends_with_zenith kop = is_type kop 3 || is_type kop 4
+unfoldable pub blends_with_zenith : Kind → Bool
+blends_with_zenith K.Dipole = true
+blends_with_zenith K.Yagi = true
+blends_with_zenith _ = false
 
 -- `iongain` above the ground, given the row's gain at the zenith
 unfoldable pub cell_gain : Row → Float → Azimuth → Float → Elevation → Float
 cell_gain row zenith azimuth delta e =
-    cond (blends_with_zenith row.kop) (blend_of e zenith (cell_of row azimuth delta e)) (cell_of row azimuth delta e)
+    cond (blends_with_zenith row.kind) (blend_of e zenith (cell_of row azimuth delta e)) (cell_of row azimuth delta e)

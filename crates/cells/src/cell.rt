@@ -5,6 +5,7 @@ ghost use Rattle.cells.specs.Cell.{power_cell, curtain_cell, cell_of, zenith_gai
 use angles::{Azimuth, Elevation};
 use curtain::{CurtainCard, CurtainRow};
 use elementary::SineCosine;
+use parameters::Kind;
 use patterns::Pattern;
 use rows::Row;
 
@@ -12,7 +13,7 @@ fn power_cell(row: Row, azimuth: Azimuth, e: Elevation) -> f32
     ensures { result ≡ power_cell row azimuth e }
 {
     let Row {
-        kop,
+        kind,
         pattern,
         soil,
         eff,
@@ -21,7 +22,7 @@ fn power_cell(row: Row, azimuth: Azimuth, e: Elevation) -> f32
     } = row;
     let ground = reflection::reflect(soil, e);
     let rain = patterns::power_of(pattern, azimuth, e, ground);
-    finish::with_floor(kop, finish::decibels(rain), eff, sok)
+    finish::with_floor(kind, finish::decibels(rain), eff, sok)
 }
 
 // The floor is tested before the reflection is computed.
@@ -36,7 +37,7 @@ fn curtain_cell(
     ensures { result ≡ curtain_cell card spacings row azimuth delta e }
 {
     let Row {
-        kop,
+        kind,
         soil,
         eff,
         sok,
@@ -46,7 +47,7 @@ fn curtain_cell(
     let gain = curtain::curtain_cell(card, spacings, azimuth, soil, delta, e, threshold);
     let rain = curtain::curtain_rain(gain);
     let added = curtain::curtain_sok(gain, sok);
-    finish::with_floor(kop, rain, eff, added)
+    finish::with_floor(kind, rain, eff, added)
 }
 
 // The elevation comes as four numbers: as a struct it would be read whole from memory right after its
@@ -79,10 +80,10 @@ pub fn blend(e: Elevation, zenith: f32, rain: f32) -> f32
     zenith * gmorph + rain * (1.0 - gmorph)
 }
 
-pub fn blends_with_zenith(kop: i32) -> bool
-    ensures { result ≡ blends_with_zenith kop }
+pub fn blends_with_zenith(kind: Kind) -> bool
+    ensures { result ≡ blends_with_zenith kind }
 {
-    matches!(kop, 3 | 4)
+    matches!(kind, Kind::Dipole | Kind::Yagi)
 }
 
 // `zenith` is the row's own gain there, which types 3 and 4 alone take.
@@ -91,7 +92,7 @@ pub fn cell_gain(row: Row, zenith: f32, azimuth: Azimuth, delta: f32, e: Elevati
 {
     let Elevation { t, q, r, s } = e;
     let rain = cell(row, azimuth, delta, t, q, r, s);
-    if blends_with_zenith(row.kop) {
+    if blends_with_zenith(row.kind) {
         return blend(e, zenith, rain);
     }
     rain

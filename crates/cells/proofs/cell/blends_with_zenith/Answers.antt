@@ -1,30 +1,28 @@
-use Rattle.std.proofs.Common.{◌≡◌, ℤ, pos, negsuc, ◌≤ℤ◌, ◌<ℤ◌, true, false, arith, refl}
-use Rattle.std.proofs.lemmas.Int.{ints}
-use Rattle.std.proofs.lemmas.Bool.Decides.{nat_tests}
-use Rattle.parameters.specs.Params.{is_type}
+use mathlib.Core.Path.{◌≡◌, refl}
+use mathlib.Core.Logic.{inl, inr}
+use Rattle.std.specs.Prelude.{false}
+use Rattle.parameters.specs.declared.kind.Kind.{Kind}
+use Rattle.parameters.specs.declared.kind.Kind.TheVariants as K
 use Rattle.cells.specs.Cell.{blends_with_zenith}
 use Rattle.cells.proofs.cell.blends_with_zenith.Goals as goal
 
-within : (kop : ℤ) → pos 3 ≤ℤ kop → kop ≤ℤ pos 4 → true ≡ blends_with_zenith kop
-unfolding blends_with_zenith is_type
-within (pos k) a b = grind (arith, nat_tests)
-within (negsuc k) a b = absurd (omega (arith, ints))
+pub returns-in-Dipole : goal.returns-in-Dipole
+unfolding blends_with_zenith
+returns-in-Dipole c = elim c.in-Dipole.is [ inl e ↦ rw e | inr e ↦ rw e ]
 
-below : (kop : ℤ) → kop <ℤ pos 3 → false ≡ blends_with_zenith kop
-unfolding blends_with_zenith is_type
-below (pos k) a = grind (arith, nat_tests)
-below (negsuc k) a = refl
-
-past : (kop : ℤ) → pos 4 <ℤ kop → false ≡ blends_with_zenith kop
-unfolding blends_with_zenith is_type
-past (pos k) a = grind (arith, nat_tests)
-past (negsuc k) a = refl
-
-pub returns-in-3 : goal.returns-in-3
-returns-in-3 c = within c.args.kop (omega (arith, ints)) (omega (arith, ints))
+others : (kind : Kind) → (kind ≡ K.Dipole → ⊥) → (kind ≡ K.Yagi → ⊥) → false ≡ blends_with_zenith kind
+unfolding blends_with_zenith
+others K.Rhombic n3 n4 = refl
+others K.Monopole n3 n4 = refl
+others K.Dipole n3 n4 = absurd (n3 refl)
+others K.Yagi n3 n4 = absurd (n4 refl)
+others K.LogPeriodic n3 n4 = refl
+others K.Curtain n3 n4 = refl
+others K.SlopingVee n3 n4 = refl
+others K.InvertedL n3 n4 = refl
+others K.SlopingRhombic n3 n4 = refl
+others K.InterlacedRhombic n3 n4 = refl
+others K.Other n3 n4 = refl
 
 pub returns-in_default : goal.returns-in_default
-returns-in_default c = below c.args.kop (omega (arith, ints))
-
-pub returns-in_default-2 : goal.returns-in_default-2
-returns-in_default-2 c = past c.args.kop (omega (arith, ints))
+returns-in_default c = others c.args.kind c.in_default.not-Dipole c.in_default.not-Yagi

@@ -1,12 +1,10 @@
 use Rattle.cells.specs.Cell.{cell_gain}
-use Rattle.cells.proofs.Blends.{blends_read}
-use borrow.Author.Rules.{rules}
 use Rattle.cells.proofs.cell.cell_gain.Goals as goal
 
 pub returns-then-blends_with_zenith : goal.returns-then-blends_with_zenith
 unfolding cell_gain
-returns-then-blends_with_zenith c = rw (← c.cell-rain.ensures, ← blends_read c.args.row.kop (search rules) c.blends_with_zenith.ensures, c.if-blends_with_zenith.true) c.blend.ensures
+returns-then-blends_with_zenith c = rw (← c.cell-rain.ensures, ← c.blends_with_zenith.ensures, c.if-blends_with_zenith.true) c.blend.ensures
 
 pub returns : goal.returns
 unfolding cell_gain
-returns c = rw (← c.cell-rain.ensures, ← blends_read c.args.row.kop (search rules) c.blends_with_zenith.ensures, c.if-blends_with_zenith.false)
+returns c = rw (← c.cell-rain.ensures, ← c.blends_with_zenith.ensures, c.if-blends_with_zenith.false)
