@@ -12,7 +12,8 @@ use Rattle.single.specs.Single.{◌⊞◌, ◌⊟◌, ◌⊠◌, num}
 use Rattle.single.proofs.Value.{round_to}
 use Rattle.elementary.specs.Basic.{cut_toward}
 use Rattle.elementary.specs.Trigonometric.{sine, cosine, in_range, turns, rest, reduced, sine_part, cosine_part, sine_at}
-use Rattle.parameters.specs.Params.{is_type}
+use Rattle.parameters.specs.declared.kind.Kind.{Kind}
+use Rattle.parameters.specs.declared.kind.Kind.TheVariants as K
 use Rattle.angles.specs.Angles.{elevation_of}
 use Rattle.angles.specs.declared.angles.Elevation.{Elevation}
 use Rattle.integrals.specs.declared.settled.Settled.{Settled}
@@ -52,11 +53,11 @@ blended (inf s) = refl
 blended (fin s m e) = ap (λ (y : Float). y ⊞ floor ⊠ (num 1 1 ⊟ num 0 1)) (times_0 s m e) ∙ zero_plus s
 
 -- the gain on the ground of types 3 and 4, before it is blended
-low : (kop : ℤ) (height : Float) → (kop ≡ pos 3) ⊎ (kop ≡ pos 4) → (ground_of kop height).gain ≡ floor
-unfolding ground_of floored efficiency_of is_type add neg round le lt eq
-low kop height t = elim t [ inl p ↦ rw p refl | inr p ↦ rw p refl ]
+low : (kind : Kind) (height : Float) → (kind ≡ K.Dipole) ⊎ (kind ≡ K.Yagi) → (ground_of kind height).gain ≡ floor
+unfolding ground_of floored efficiency_of add neg round le lt eq
+low kind height t = elim t [ inl p ↦ rw p refl | inr p ↦ rw p refl ]
 
-pub ground_zenith : (antenna : Antenna) (height : Float) (row : Settled Row) → (antenna.kop ≡ pos 3) ⊎ (antenna.kop ≡ pos 4)
+pub ground_zenith : (antenna : Antenna) (height : Float) (row : Settled Row) → (antenna.kind ≡ K.Dipole) ⊎ (antenna.kind ≡ K.Yagi)
     → work_gain (ground_from antenna horizon height (Some row)) ≡ cond (finite (zenith_gain row.value)) floor nan
 unfolding blend_of
-ground_zenith antenna height row t = rw (low antenna.kop height t, s_at_0) (blended (zenith_gain row.value))
+ground_zenith antenna height row t = rw (low antenna.kind height t, s_at_0) (blended (zenith_gain row.value))

@@ -1,10 +1,13 @@
 -- Laws of the gain call that a deck rests on: what the ground gives, what depends on the carried height, the height left, the floor. Assumes nothing.
-use Rattle.std.specs.Prelude.{◌≡◌, Bool, true, false, ◌||◌, T, eqb, ◌⊎◌, ℤ, pos, negsuc, Option, Some, None}
-use mathlib.Core.Path.{refl, sym, ap, subst, ◌∙◌}
-use lib.Dec.{eqb→eq}
+use Rattle.std.specs.Prelude.{◌≡◌, true, false, ◌||◌, T, ◌⊎◌, Option, Some, None}
+use mathlib.Core.Path.{refl, sym, ap, ◌∙◌}
+use mathlib.Core.Bool.{true≢false}
 use lib.Ieee.{Float, nan, lt, le}
 use Rattle.single.specs.Single.{◌⊞◌, num}
-use Rattle.parameters.specs.Params.{is_type}
+use Rattle.parameters.specs.Kind.{is_kind}
+use Rattle.parameters.specs.declared.kind.Kind.{Kind}
+use Rattle.parameters.specs.declared.kind.Kind.TheVariants as K
+use Rattle.lengths.specs.declared.length.Length.{Length}
 use Rattle.angles.specs.Angles.{wave_of}
 use Rattle.angles.specs.declared.angles.Elevation.{Elevation}
 use Rattle.angles.specs.declared.angles.Azimuth.{Azimuth}
@@ -50,49 +53,66 @@ below antenna fmc delta e height t = rw t refl
 
 -- ---- the height left: above the ground, and at the ground by types 3 and 4, it is the type's own; else it stays
 pub left_above : (antenna : Antenna) (fmc delta : Float) (e : Elevation)
-    → OfCall (λ call. call.height ≡ height_for antenna.kop antenna.leg (wave_of fmc)) (above_ground antenna fmc delta e)
+    → OfCall (λ call. call.height ≡ height_for antenna.kind antenna.leg (wave_of fmc)) (above_ground antenna fmc delta e)
 unfolding above_ground
 left_above antenna fmc delta e = from_row antenna fmc (above_from antenna delta e) _ (λ row own. own.1) tt
 
 -- ---- the ground outside types 3 and 4: -30 plus the type's efficiency at the carried height, which stays
-pub ground_value : (antenna : Antenna) (fmc : Float) (e : Elevation) (height : Float) → blends_with_zenith antenna.kop ≡ false
+pub ground_value : (antenna : Antenna) (fmc : Float) (e : Elevation) (height : Float) → blends_with_zenith antenna.kind ≡ false
     → at_ground antenna fmc e height
     ≡ Some
     (record {
-      gain = floor ⊞ efficiency_of antenna.kop height (num 0 1);
-      efficiency = efficiency_of antenna.kop height (num 0 1);
+      gain = floor ⊞ efficiency_of antenna.kind height (num 0 1);
+      efficiency = efficiency_of antenna.kind height (num 0 1);
       height = height;
       turns = record { ci = 0; si = 0 };
     })
 unfolding at_ground ground_of
-ground_value antenna fmc e height u = rw (u, ground_gain_lem antenna.kop height) refl
+ground_value antenna fmc e height u = rw (u, ground_gain_lem antenna.kind height) refl
 
 -- ---- types 3 and 4 are not 2 or 5: at the ground they depend on no height, and leave 1
-other_types : (kop : ℤ) → blends_with_zenith kop ≡ true → (is_type kop 2 || is_type kop 5) ≡ false
-unfolding blends_with_zenith is_type
-other_types (pos k) t = go (eqb k 3) (eqb k 4) (eqb→eq k 3) (eqb→eq k 4) t
-  where
-    go : (a b : Bool) → (T a → k ≡ 3) → (T b → k ≡ 4) → (a || b) ≡ true → (eqb k 2 || eqb k 5) ≡ false
-    go true b is3 is4 t = rw (is3 tt) refl
-    go false true is3 is4 t = rw (is4 tt) refl
-    go false false is3 is4 t = absurd (subst T (sym t) tt)
-other_types (negsuc k) t = refl
+other_types : (kind : Kind) → blends_with_zenith kind ≡ true → (is_kind kind 2 || is_kind kind 5) ≡ false
+unfolding blends_with_zenith
+other_types K.Rhombic t = refl
+other_types K.Monopole t = absurd (true≢false (sym t))
+other_types K.Dipole t = refl
+other_types K.Yagi t = refl
+other_types K.LogPeriodic t = absurd (true≢false (sym t))
+other_types K.Curtain t = refl
+other_types K.SlopingVee t = refl
+other_types K.InvertedL t = refl
+other_types K.SlopingRhombic t = refl
+other_types K.InterlacedRhombic t = refl
+other_types K.Other t = refl
 
-pub zenith_left : (antenna : Antenna) (fmc : Float) → blends_with_zenith antenna.kop ≡ true → height_for antenna.kop antenna.leg (wave_of fmc) ≡ num 1 1
-unfolding height_for
-zenith_left antenna fmc u = rw (other_types antenna.kop u) refl
+zenith_own : (kind : Kind) (leg : Length) (wave : Float) → blends_with_zenith kind ≡ true → height_for kind leg wave ≡ num 1 1
+unfolding blends_with_zenith height_for
+zenith_own K.Rhombic leg wave t = refl
+zenith_own K.Monopole leg wave t = absurd (true≢false (sym t))
+zenith_own K.Dipole leg wave t = refl
+zenith_own K.Yagi leg wave t = refl
+zenith_own K.LogPeriodic leg wave t = absurd (true≢false (sym t))
+zenith_own K.Curtain leg wave t = refl
+zenith_own K.SlopingVee leg wave t = refl
+zenith_own K.InvertedL leg wave t = refl
+zenith_own K.SlopingRhombic leg wave t = refl
+zenith_own K.InterlacedRhombic leg wave t = refl
+zenith_own K.Other leg wave t = refl
 
-pub zenith_ground_left : (antenna : Antenna) (fmc : Float) (e : Elevation) (height : Float) → blends_with_zenith antenna.kop ≡ true
+pub zenith_left : (antenna : Antenna) (fmc : Float) → blends_with_zenith antenna.kind ≡ true → height_for antenna.kind antenna.leg (wave_of fmc) ≡ num 1 1
+zenith_left antenna fmc u = zenith_own antenna.kind antenna.leg (wave_of fmc) u
+
+pub zenith_ground_left : (antenna : Antenna) (fmc : Float) (e : Elevation) (height : Float) → blends_with_zenith antenna.kind ≡ true
     → OfCall (λ call. call.height ≡ num 1 1) (at_ground antenna fmc e height)
 unfolding at_ground
 zenith_ground_left antenna fmc e height u = rw u (from_row antenna fmc (ground_from antenna e height) _ (λ row own. own.1 ∙ zenith_left antenna fmc u) tt)
 
-pub zenith_ground_same : (antenna : Antenna) (fmc : Float) (e : Elevation) (h h' : Float) → blends_with_zenith antenna.kop ≡ true → at_ground antenna fmc e h ≡ at_ground antenna fmc e h'
+pub zenith_ground_same : (antenna : Antenna) (fmc : Float) (e : Elevation) (h h' : Float) → blends_with_zenith antenna.kind ≡ true → at_ground antenna fmc e h ≡ at_ground antenna fmc e h'
 unfolding at_ground
 zenith_ground_same antenna fmc e h h' u = rw u (go (row_of antenna fmc))
   where
     go : (r : Option (Settled Row)) → ground_from antenna e h r ≡ ground_from antenna e h' r
-    go (Some row) = rw (ground_same_lem antenna.kop h h' (other_types antenna.kop u)) refl
+    go (Some row) = rw (ground_same_lem antenna.kind h h' (other_types antenna.kind u)) refl
     go None = refl
 
 -- ---- whether 11 arises does not depend on the carried height
@@ -104,22 +124,22 @@ number_same antenna fmc delta e h h' = work_number_lem antenna fmc e delta h ∙
 abbrev pub AboveFloor : Float → Float → Type 0
 AboveFloor gain efficiency = (gain ≡ nan) ⊎ (T (lt floor gain) ⊎ (gain ≡ floor ⊞ efficiency))
 
-cell_floor : (p : Pattern) (row : Row) (azimuth : Azimuth) (delta : Float) (e : Elevation) → is_type row.kop 2 ≡ false → AboveFloor (cell_by p row azimuth delta e) row.eff
+cell_floor : (p : Pattern) (row : Row) (azimuth : Azimuth) (delta : Float) (e : Elevation) → is_kind row.kind 2 ≡ false → AboveFloor (cell_by p row azimuth delta e) row.eff
 unfolding power_cell curtain_cell
-cell_floor (P.Rhombic legs) row azimuth delta e t = floor_rule row.kop _ row.eff row.sok t
-cell_floor (P.Interlaced legs offset) row azimuth delta e t = floor_rule row.kop _ row.eff row.sok t
-cell_floor (P.Vee slope) row azimuth delta e t = floor_rule row.kop _ row.eff row.sok t
-cell_floor (P.SlopingRhombic slope) row azimuth delta e t = floor_rule row.kop _ row.eff row.sok t
-cell_floor (P.Curtain card spacings) row azimuth delta e t = floor_rule row.kop _ row.eff _ t
-cell_floor (P.Wire dipole) row azimuth delta e t = floor_rule row.kop _ row.eff row.sok t
-cell_floor (P.Vertical monopole) row azimuth delta e t = floor_rule row.kop _ row.eff row.sok t
-cell_floor (P.Inverted l) row azimuth delta e t = floor_rule row.kop _ row.eff row.sok t
-cell_floor P.Other row azimuth delta e t = floor_rule row.kop _ row.eff row.sok t
+cell_floor (P.Rhombic legs) row azimuth delta e t = floor_rule row.kind _ row.eff row.sok t
+cell_floor (P.Interlaced legs offset) row azimuth delta e t = floor_rule row.kind _ row.eff row.sok t
+cell_floor (P.Vee slope) row azimuth delta e t = floor_rule row.kind _ row.eff row.sok t
+cell_floor (P.SlopingRhombic slope) row azimuth delta e t = floor_rule row.kind _ row.eff row.sok t
+cell_floor (P.Curtain card spacings) row azimuth delta e t = floor_rule row.kind _ row.eff _ t
+cell_floor (P.Wire dipole) row azimuth delta e t = floor_rule row.kind _ row.eff row.sok t
+cell_floor (P.Vertical monopole) row azimuth delta e t = floor_rule row.kind _ row.eff row.sok t
+cell_floor (P.Inverted l) row azimuth delta e t = floor_rule row.kind _ row.eff row.sok t
+cell_floor P.Other row azimuth delta e t = floor_rule row.kind _ row.eff row.sok t
 
-pub floor_above : (antenna : Antenna) (fmc delta : Float) (e : Elevation) → is_type antenna.kop 2 ≡ false → blends_with_zenith antenna.kop ≡ false
+pub floor_above : (antenna : Antenna) (fmc delta : Float) (e : Elevation) → is_kind antenna.kind 2 ≡ false → blends_with_zenith antenna.kind ≡ false
     → OfCall (λ call. AboveFloor call.gain call.efficiency) (above_ground antenna fmc delta e)
 unfolding above_ground cell_gain cell_of
 floor_above antenna fmc delta e t u =
     from_row antenna fmc (above_from antenna delta e) _
-    (λ row own. rw (ap blends_with_zenith own.0 ∙ u) (cell_floor row.value.pattern row.value antenna.azimuth delta e (ap (λ (k : ℤ). is_type k 2) own.0 ∙ t)))
+    (λ row own. rw (ap blends_with_zenith own.0 ∙ u) (cell_floor row.value.pattern row.value antenna.azimuth delta e (ap (λ (k : Kind). is_kind k 2) own.0 ∙ t)))
     tt

@@ -46,9 +46,9 @@ module _ (antenna : Antenna) (fmc : Float) (e : Elevation) where
 
   pub ground_number : (height : Float) → unsettled_number (at_ground antenna fmc e height) ≡ settled_number (ground_settles antenna fmc)
   unfolding at_ground ground_settles unsettled_number
-  ground_number height = go (blends_with_zenith antenna.kop) refl
+  ground_number height = go (blends_with_zenith antenna.kind) refl
     where
-      go : (b : Bool) → blends_with_zenith antenna.kop ≡ b → unsettled_number (at_ground antenna fmc e height) ≡ settled_number (ground_settles antenna fmc)
+      go : (b : Bool) → blends_with_zenith antenna.kind ≡ b → unsettled_number (at_ground antenna fmc e height) ≡ settled_number (ground_settles antenna fmc)
       go true u = rw u (of_row_ground antenna e height _ ∙ row_number_lem antenna fmc)
       go false u = rw u refl
 

@@ -15,7 +15,7 @@ use Rattle.gain_core.specs.declared.calls.Call.{Call}
 
 -- what a row's cells blend with: types 3 and 4 alone take it
 unfoldable pub zenith_gain_for : Row → Float
-zenith_gain_for row = cond (blends_with_zenith row.kop) (zenith_gain row) (num 0 1)
+zenith_gain_for row = cond (blends_with_zenith row.kind) (zenith_gain row) (num 0 1)
 
 abbrev pub above_from : Antenna → Float → Elevation → Option (Settled Row) → Option Call
 above_from antenna delta e (Some settled) =
@@ -31,15 +31,15 @@ above_ground antenna fmc delta e = above_from antenna delta e (row_of antenna fm
 abbrev pub ground_from : Antenna → Elevation → Float → Option (Settled Row) → Option Call
 ground_from antenna e height (Some settled) =
     let row = settled.value in
-    let low = ground_of antenna.kop height in
+    let low = ground_of antenna.kind height in
     Some (record { gain = blend_of e (zenith_gain row) low.gain; efficiency = low.efficiency; height = row.x; turns = settled.turns })
 ground_from antenna e height None = None
 
 -- elevation 0 or below: the height is the carried one, and stays but for types 3 and 4
 unfoldable pub at_ground : Antenna → Float → Elevation → Float → Option Call
 at_ground antenna fmc e height =
-    let low = ground_of antenna.kop height in
-    cond (blends_with_zenith antenna.kop) (ground_from antenna e height (row_of antenna fmc))
+    let low = ground_of antenna.kind height in
+    cond (blends_with_zenith antenna.kind) (ground_from antenna e height (row_of antenna fmc))
     (Some (record { gain = low.gain; efficiency = low.efficiency; height = height; turns = record { ci = 0; si = 0 } }))
 
 unfoldable pub work_of : Antenna → Float → Float → Elevation → Float → Option Call
@@ -48,7 +48,7 @@ work_of antenna fmc delta e height =
 
 -- at the ground types 3 and 4 alone take the row
 unfoldable pub ground_settles : Antenna → Float → Bool
-ground_settles antenna fmc = cond (blends_with_zenith antenna.kop) (pattern_settles antenna (wave_of fmc)) true
+ground_settles antenna fmc = cond (blends_with_zenith antenna.kind) (pattern_settles antenna (wave_of fmc)) true
 
 unfoldable pub work_settles : Antenna → Float → Float → Bool
 work_settles antenna fmc delta = cond (le delta (num 0 1)) (ground_settles antenna fmc) (pattern_settles antenna (wave_of fmc))

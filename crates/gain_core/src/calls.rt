@@ -11,6 +11,7 @@ use angles::Elevation;
 use antennas::Antenna;
 use cells::{blend, blends_with_zenith, cell_gain, zenith_gain};
 use integrals::{Settled, Turns};
+use parameters::Kind;
 use rows::Row;
 
 // `height` is the one left, `turns` the most of an integral's series.
@@ -26,7 +27,7 @@ pub struct Call {
 pub fn zenith_gain_for(row: Row) -> f32
     ensures { result ≡ zenith_gain_for row }
 {
-    if blends_with_zenith(row.kop) {
+    if blends_with_zenith(row.kind) {
         return zenith_gain(row);
     }
     0.0
@@ -34,10 +35,10 @@ pub fn zenith_gain_for(row: Row) -> f32
 
 // Whether a call takes no row: at the ground, outside types 3 and 4, which take the zenith's gain
 // there.
-fn without_row(kop: i32, delta: f32) -> bool
-    ensures { result ≡ (le delta (num 0 1) && not (blends_with_zenith kop)) }
+fn without_row(kind: Kind, delta: f32) -> bool
+    ensures { result ≡ (le delta (num 0 1) && not (blends_with_zenith kind)) }
 {
-    delta <= 0.0 && !blends_with_zenith(kop)
+    delta <= 0.0 && !blends_with_zenith(kind)
 }
 
 // `e` has the elevation's sine and cosine. `row_of` is called in one place, so that it is compiled
@@ -45,8 +46,8 @@ fn without_row(kop: i32, delta: f32) -> bool
 pub fn work(antenna: Antenna, fmc: f32, delta: f32, e: Elevation, height: f32) -> Option<Call>
     ensures { IsAnswer unsettled_number work_values zero_values 11 (work_of antenna fmc delta e height) (work_settles antenna fmc delta) result }
 {
-    if without_row(antenna.kop, delta) {
-        let low = finish::ground_gain(antenna.kop, height);
+    if without_row(antenna.kind, delta) {
+        let low = finish::ground_gain(antenna.kind, height);
         return Some(Call {
             gain: low.gain,
             efficiency: low.efficiency,
@@ -56,7 +57,7 @@ pub fn work(antenna: Antenna, fmc: f32, delta: f32, e: Elevation, height: f32) -
     }
     let Settled { value: row, turns } = rows::row_of(antenna, fmc)?;
     if delta <= 0.0 {
-        let low = finish::ground_gain(antenna.kop, height);
+        let low = finish::ground_gain(antenna.kind, height);
         return Some(Call {
             gain: blend(e, zenith_gain(row), low.gain),
             efficiency: low.efficiency,

@@ -1,14 +1,11 @@
 use mathlib.Core.Path.{ap}
 use Rattle.std.specs.Prelude.{not}
 use lib.Ieee.{round, of_bits}
-use mir.Syntax.{w32}
-use mir.ValLaws.{to_z-of_z}
-use borrow.Author.Rules.{rules}
 use Rattle.gain_core.proofs.calls.without_row.Goals as goal
 
 pub returns-then-delta : goal.returns-then-delta
 unfolding round of_bits
-returns-then-delta c = rw c.if-delta.true (rw (to_z-of_z w32 c.args.kop (search rules)) at (ap not c.blends_with_zenith.ensures))
+returns-then-delta c = rw c.if-delta.true (ap not c.blends_with_zenith.ensures)
 
 pub returns-else-delta : goal.returns-else-delta
 unfolding round of_bits

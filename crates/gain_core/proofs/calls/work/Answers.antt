@@ -2,8 +2,6 @@ use Rattle.std.specs.Prelude.{◌≡◌, Bool, true, false, not, ◌&&◌, Some,
 use mathlib.Core.Path.{refl, sym, ◌∙◌}
 use mathlib.Core.Bool.{true≢false}
 use lib.Ieee.{Float, le, round, of_bits}
-use mir.Syntax.{w32}
-use mir.ValLaws.{to_z-of_z}
 use Rattle.single.specs.Single.{num}
 use Rattle.angles.specs.declared.angles.Elevation.{Elevation}
 use Rattle.integrals.specs.declared.settled.Settled.{Settled}
@@ -15,7 +13,6 @@ use Rattle.rows.specs.Row.{row_of}
 use Rattle.rows.specs.declared.row.Row.{Row}
 use Rattle.gain_core.specs.Core.{zenith_gain_for, above_ground, at_ground, work_of}
 use Rattle.gain_core.proofs.Unsettled.{all_answers}
-use borrow.Author.Rules.{rules}
 use Rattle.gain_core.proofs.calls.work.Goals as goal
 use Rattle.gain_core.proofs.calls.work.Goals.{After-without_row}
 
@@ -24,9 +21,9 @@ module _ (antenna : Antenna) (fmc delta : Float) (e : Elevation) (height : Float
   ground = le delta (num 0 1)
 
   abbrev blends : Bool
-  blends = blends_with_zenith antenna.kop
+  blends = blends_with_zenith antenna.kind
 
-  low_only : (a b : Bool) → ground ≡ a → blends ≡ b → (a && not b) ≡ true → (low : Finished) → low ≡ ground_of antenna.kop height
+  low_only : (a b : Bool) → ground ≡ a → blends ≡ b → (a && not b) ≡ true → (low : Finished) → low ≡ ground_of antenna.kind height
       → Some (record { gain = low.gain; efficiency = low.efficiency; height = height; turns = record { ci = 0; si = 0 } }) ≡ work_of antenna fmc delta e height
   unfolding work_of at_ground
   low_only true false a b h low l = rw (a, b, ← l)
@@ -43,7 +40,7 @@ module _ (antenna : Antenna) (fmc delta : Float) (e : Elevation) (height : Float
     abbrev row : Row
     row = settled.value
 
-    at_zenith : (b : Bool) → ground ≡ true → blends ≡ b → (true && not b) ≡ false → (low : Finished) (zenith gain : Float) → low ≡ ground_of antenna.kop height → zenith ≡ zenith_gain row → gain ≡ blend_of e zenith low.gain
+    at_zenith : (b : Bool) → ground ≡ true → blends ≡ b → (true && not b) ≡ false → (low : Finished) (zenith gain : Float) → low ≡ ground_of antenna.kind height → zenith ≡ zenith_gain row → gain ≡ blend_of e zenith low.gain
         → Some (record { gain = gain; efficiency = low.efficiency; height = row.x; turns = settled.turns }) ≡ work_of antenna fmc delta e height
     unfolding work_of at_ground
     at_zenith true a b h low zenith gain l u g = rw (a, b, r, ← l, ← u, ← g)
@@ -54,13 +51,13 @@ module _ (antenna : Antenna) (fmc delta : Float) (e : Elevation) (height : Float
     unfolding work_of above_ground
     above a zenith gain u g = rw (a, r, ← u, ← g)
 
-without : (c : After-without_row) → let s = c.args in c.without_row.result ≡ (le s.delta (num 0 1) && not (blends_with_zenith s.antenna.kop))
+without : (c : After-without_row) → let s = c.args in c.without_row.result ≡ (le s.delta (num 0 1) && not (blends_with_zenith s.antenna.kind))
 unfolding round of_bits
-without c = rw (to_z-of_z w32 c.args.antenna.kop (search rules)) at c.without_row.ensures
+without c = c.without_row.ensures
 
 pub returns-then-without_row : goal.returns-then-without_row
 unfolding round of_bits
-returns-then-without_row c = all_answers _ _ _ _ _ _ (low_only _ _ _ _ _ _ _ refl refl (sym (without (goal.at.returns-then-without_row c).After-without_row) ∙ c.if-without_row.true) _ (rw (to_z-of_z w32 c.args.antenna.kop (search rules)) at c.ground_gain-low.ensures))
+returns-then-without_row c = all_answers _ _ _ _ _ _ (low_only _ _ _ _ _ _ _ refl refl (sym (without (goal.at.returns-then-without_row c).After-without_row) ∙ c.if-without_row.true) _ c.ground_gain-low.ensures)
 
 pub returns-in_err-row : goal.returns-in_err-row
 returns-in_err-row c = all_answers _ _ _ _ _ _ (rw c.from_residual.ensures (no_row _ _ _ _ _ _ _ refl refl (sym (without (goal.at.returns-in_err-row c).After-without_row) ∙ c.if-without_row.false) (sym c.row_of.ensures.0 ∙ c.in_err-row.was)))
@@ -69,7 +66,7 @@ pub returns-then-delta : goal.returns-then-delta
 unfolding round of_bits
 returns-then-delta c =
     let low = c.if-delta.true in
-    all_answers _ _ _ _ _ _ (at_zenith _ _ _ _ _ _ (sym c.row_of.ensures.0 ∙ c.in_ok-row.was) _ low refl (rw low at (sym (without (goal.at.returns-then-delta c).After-without_row) ∙ c.if-without_row.false)) _ _ _ (rw (to_z-of_z w32 c.args.antenna.kop (search rules)) at c.ground_gain-low-then-delta.ensures) c.zenith_gain.ensures c.blend.ensures)
+    all_answers _ _ _ _ _ _ (at_zenith _ _ _ _ _ _ (sym c.row_of.ensures.0 ∙ c.in_ok-row.was) _ low refl (rw low at (sym (without (goal.at.returns-then-delta c).After-without_row) ∙ c.if-without_row.false)) _ _ _ c.ground_gain-low-then-delta.ensures c.zenith_gain.ensures c.blend.ensures)
 
 pub returns : goal.returns
 unfolding round of_bits
