@@ -5,10 +5,10 @@ use mathlib.Core.Logic.{inl}
 use Prim.Native.Nat.{ℕ, zero, suc, ◌+◌, ◌-◌, ◌*◌, ◌≤◌}
 use native.Mathlib.Omega.{arith}
 use native.Mathlib.Numerals.{add-one}
-use lib.IntN.{ℤ}
 use lib.ListN.{set}
 use lib.Ieee.{Float}
 use Rattle.single.specs.Single.{whole}
+use Rattle.parameters.specs.declared.kind.Kind.{Kind}
 use Rattle.integrals.specs.declared.settled.Settled.{Settled}
 use Rattle.angles.specs.declared.angles.Elevation.{Elevation}
 use Rattle.antennas.specs.declared.antenna.Antenna.{Antenna}
@@ -49,7 +49,7 @@ module _ (f : Fields) (m : ℕ) (F : Fills the_antenna f m) (s : Settled Row) (i
       (row_step the_antenna the_laws f m row.x t₁ _ (suc n) (gain_at m (suc n)) (cell_at row (zenith_gain_for row) (antenna_for (card_of f)).azimuth (suc n)) F (gains_stored t₁ n (omega arith)) (omega arith) refl
       (sym (ap (λ (a : Answer). a.gain) (above_settled (card_of f) m s is n row.x (omega arith)))))
 
-  settled : (h g : Float) (t₀ t : List Float) → g ≡ ground_cell (antenna_for (card_of f)).kop (zenith_gain_for row) (column_at 0) h
+  settled : (h g : Float) (t₀ t : List Float) → g ≡ ground_cell (antenna_for (card_of f)).kind (zenith_gain_for row) (column_at 0) h
       → t ≡ stored_above (cell_at row (zenith_gain_for row) (antenna_for (card_of f)).azimuth) m 90 (set t₀ ((m - 1) * 91) g)
       → RowDone the_antenna f m h t₀ (set t (2730 + (m - 1)) row.eff) 0 row.x
   settled h g t₀ t eg et =
@@ -63,11 +63,11 @@ module _ (f : Fields) (m : ℕ) (F : Fills the_antenna f m) (s : Settled Row) (i
       (sym (ap (λ (a : Answer). a.efficiency) (above_settled (card_of f) m s is 89 row.x (omega arith))))
       (row_height (card_of f) m s is ∙ (unfold card_of antenna_for in left_is f m F.passes))
 
-pub row_settled : (a : Antenna) (m : ℕ) (h up g : Float) (kop : ℤ) (e₀ : Elevation) (t₀ t : List Float) (s : Settled Row) → row_of a (whole m) ≡ Some s
-    → kop ≡ a.kop → up ≡ zenith_gain_for s.value → e₀ ≡ column_at 0
-    → g ≡ ground_cell kop up e₀ h → t ≡ stored_above (cell_at s.value up a.azimuth) m 90 (set t₀ ((m - 1) * 91) g)
+pub row_settled : (a : Antenna) (m : ℕ) (h up g : Float) (kind : Kind) (e₀ : Elevation) (t₀ t : List Float) (s : Settled Row) → row_of a (whole m) ≡ Some s
+    → kind ≡ a.kind → up ≡ zenith_gain_for s.value → e₀ ≡ column_at 0
+    → g ≡ ground_cell kind up e₀ h → t ≡ stored_above (cell_at s.value up a.azimuth) m 90 (set t₀ ((m - 1) * 91) g)
     → RowOfFields a m h t₀ (set t (2730 + (m - 1)) s.value.eff) 0 s.value.x
-row_settled a m h up g kop e₀ t₀ t s is ek eu ee eg et f e F =
+row_settled a m h up g kind e₀ t₀ t s is ek eu ee eg et f e F =
     settled f m F s (ap (λ (x : Antenna). row_of x (whole m)) (sym e) ∙ is) h g t₀ t
-    (eg ∙ (λ i. ground_cell ((ek ∙ ap (λ (x : Antenna). x.kop) e) i) (eu i) (ee i) h))
+    (eg ∙ (λ i. ground_cell ((ek ∙ ap (λ (x : Antenna). x.kind) e) i) (eu i) (ee i) h))
     (et ∙ (λ i. stored_above (cell_at s.value (eu i) (e i).azimuth) m 90 (set t₀ ((m - 1) * 91) g)))

@@ -1,6 +1,6 @@
 -- The laws that demand 3 rests on, of the antenna that the cards are run on. Assumes nothing.
 use mathlib.Core.Path.{◌≡◌, refl, sym, ap, ap₂, subst, ◌∙◌}
-use mathlib.Core.Bool.{Bool, true, false, not, ◌||◌}
+use mathlib.Core.Bool.{Bool, true, false, not, ◌||◌, cond}
 use mathlib.Core.Logic.{inr, ◌≢◌}
 use Prim.Native.Nat.{ℕ, zero, suc, ◌<◌, ◌≤◌}
 use native.Mathlib.Omega.{arith}
@@ -12,12 +12,19 @@ use lib.Ieee.Bits.{is_true, is_false}
 use lib.Ieee.Scale.{finite}
 use Rattle.single.specs.Single.{◌⊞◌, num, whole}
 use Rattle.parameters.specs.Params.{is_type}
+use Rattle.parameters.specs.Kind.{kind_of, is_kind}
+use Rattle.parameters.specs.declared.kind.Kind.{Kind}
+use Rattle.parameters.specs.declared.kind.Kind.TheVariants as K
+use Rattle.parameters.proofs.Numbers.{is_kind_lem}
+use Rattle.lengths.specs.Length.{phase_of, monopole_turn}
+use Rattle.lengths.specs.declared.length.Length.{Length}
 use Rattle.angles.specs.Angles.{wave_of}
 use Rattle.finish.specs.Finish.{floor, efficiency_of}
 use Rattle.finish.proofs.Laws.{efficiency_same_lem}
 use Rattle.rows.specs.Row.{height_for}
 use Rattle.rows.proofs.Height.{height_finite}
 use Rattle.cells.specs.Cell as Cell
+use Rattle.cells.proofs.Blends.{blends_kind}
 use Rattle.std.specs.Prelude.{Option, Some, None}
 use Rattle.integrals.specs.Settled.{unsettled_number}
 use Rattle.gain_core.specs.Core.{above_ground, work_of}
@@ -55,23 +62,40 @@ unfolding unsettled_number
 answer_floor (Some call) own e = own
 answer_floor None own e = let z : ⊥ = omega arith in absurd z
 
--- ---- the type as a whole number and as a number from 0
+-- ---- the type as a kind, as a whole number and as a number from 0
+carries_number : (kop : ℕ) → (is_kind (kind_of (pos kop)) 2 || is_kind (kind_of (pos kop)) 5) ≡ carries_height kop
+unfolding is_type
+carries_number kop = ap₂ ◌||◌ (is_kind_lem (pos kop) 2 (omega arith) (omega arith)) (is_kind_lem (pos kop) 5 (omega arith) (omega arith))
+
 module _ (f : Fields) (p : fields_refusal f ≡ 0) where
-  kind : (n : ℕ) → is_type f.kop n ≡ eqb (nat_abs f.kop) n
+  kind : (n : ℕ) → 0 < n → n ≤ 10 → is_kind (kind_of f.kop) n ≡ eqb (nat_abs f.kop) n
   unfolding is_type
-  kind n = ap (λ (k : ℤ). is_type k n) (is_type_lem f p)
+  kind n low high = is_kind_lem f.kop n low high ∙ ap (λ (k : ℤ). is_type k n) (is_type_lem f p)
 
-  carries : (is_type f.kop 2 || is_type f.kop 5) ≡ carries_height (nat_abs f.kop)
-  carries = ap₂ ◌||◌ (kind 2) (kind 5)
+  carries : (is_kind (kind_of f.kop) 2 || is_kind (kind_of f.kop) 5) ≡ carries_height (nat_abs f.kop)
+  carries = ap₂ ◌||◌ (kind 2 (omega arith) (omega arith)) (kind 5 (omega arith) (omega arith))
 
-  looks : Cell.blends_with_zenith f.kop ≡ has_second_call (nat_abs f.kop)
-  unfolding Cell.blends_with_zenith
-  looks = ap₂ ◌||◌ (kind 3) (kind 4)
+  looks : Cell.blends_with_zenith (kind_of f.kop) ≡ has_second_call (nat_abs f.kop)
+  looks = blends_kind (kind_of f.kop) ∙ ap₂ ◌||◌ (kind 3 (omega arith) (omega arith)) (kind 4 (omega arith) (omega arith))
 
 -- ---- the height that a row leaves
-pub left_is : (f : Fields) (m : ℕ) → fields_refusal f ≡ 0 → height_for f.kop (card_of f).leg (wave_of (whole m)) ≡ height_left the_antenna f m
-unfolding height_for height_left
-left_is f m p = rw (carries f p) refl
+height_kind : (kind : Kind) (leg : Length) (wave : Float) → height_for kind leg wave ≡ cond (is_kind kind 2 || is_kind kind 5) (phase_of monopole_turn leg wave).waves (num 1 1)
+unfolding height_for
+height_kind K.Rhombic leg wave = refl
+height_kind K.Monopole leg wave = refl
+height_kind K.Dipole leg wave = refl
+height_kind K.Yagi leg wave = refl
+height_kind K.LogPeriodic leg wave = refl
+height_kind K.Curtain leg wave = refl
+height_kind K.SlopingVee leg wave = refl
+height_kind K.InvertedL leg wave = refl
+height_kind K.SlopingRhombic leg wave = refl
+height_kind K.InterlacedRhombic leg wave = refl
+height_kind K.Other leg wave = refl
+
+pub left_is : (f : Fields) (m : ℕ) → fields_refusal f ≡ 0 → height_for (kind_of f.kop) (card_of f).leg (wave_of (whole m)) ≡ height_left the_antenna f m
+unfolding height_left
+left_is f m p = height_kind (kind_of f.kop) (card_of f).leg (wave_of (whole m)) ∙ rw (carries f p) refl
 
 pub mhz_range : (m : ℕ) → 1 ≤ m → m ≤ 30 → T (le (num 1 1) (whole m)) × T (le (whole m) (num 30 1))
 mhz_range zero l h = absurd (not-suc-le-zero l)
@@ -82,7 +106,7 @@ unfolding card_of antenna_for
 left_finite f m F =
     let r = in_range_lem f F.passes in
     let mhz = mhz_range m (omega (arith, r.low, F.low)) (omega (arith, r.high, F.high)) in
-    subst (λ (x : Float). T (finite x)) (left_is f m F.passes) (height_finite f.kop _ (whole m) (params_within f F.passes).anl mhz.0 mhz.1)
+    subst (λ (x : Float). T (finite x)) (left_is f m F.passes) (height_finite (kind_of f.kop) _ (whole m) (params_within f F.passes).anl mhz.0 mhz.1)
 
 -- ---- on the ground
 module _ (f : Fields) (m : ℕ) (p : fields_refusal f ≡ 0) where
@@ -106,17 +130,17 @@ module _ (f : Fields) (m : ℕ) (p : fields_refusal f ≡ 0) where
       → call_of (card_of f) m 0 h
       ≡ record {
         refusal = 0;
-        gain = floor ⊞ efficiency_of f.kop h (num 0 1);
-        efficiency = efficiency_of f.kop h (num 0 1);
+        gain = floor ⊞ efficiency_of (kind_of f.kop) h (num 0 1);
+        efficiency = efficiency_of (kind_of f.kop) h (num 0 1);
         height = h;
       }
   unfolding card_of antenna_for unsettled_number
   ground_is h n =
       call_ground (card_of f) m h ∙ ap answer_of (ground_value (antenna_for (card_of f)) (whole m) (column_at 0) h (looks f p ∙ is_false _ n))
 
-  ground_gain_lem : (h : Float) → T (not (has_second_call (nat_abs f.kop))) → (call_of (card_of f) m 0 h).gain ≡ floor_plus (efficiency_of (pos (nat_abs f.kop)) h (num 0 1))
+  ground_gain_lem : (h : Float) → T (not (has_second_call (nat_abs f.kop))) → (call_of (card_of f) m 0 h).gain ≡ floor_plus (efficiency_of (kind_of (pos (nat_abs f.kop))) h (num 0 1))
   unfolding floor_plus
-  ground_gain_lem h n = ap (λ (a : Answer). a.gain) (ground_is h n) ∙ ap (λ (k : ℤ). floor ⊞ efficiency_of k h (num 0 1)) (is_type_lem f p)
+  ground_gain_lem h n = ap (λ (a : Answer). a.gain) (ground_is h n) ∙ ap (λ (k : ℤ). floor ⊞ efficiency_of (kind_of k) h (num 0 1)) (is_type_lem f p)
 
 -- ---- outside types 2, 3 and 4
 or-false : (a b : Bool) → T (not (a || b)) → (a ≡ false) × T (not b)
@@ -131,7 +155,7 @@ floor_holds f m zero h p l t e =
 floor_holds f m (suc d) h p l t e =
     let o = or-false (eqb (nat_abs f.kop) 2) (has_second_call (nat_abs f.kop)) t in
     let at = call_above (card_of f) m d h (omega arith) in
-    let own = floor_above (antenna_for (card_of f)) (whole m) (elevation_at (suc d)) (column_at (suc d)) (unfold card_of antenna_for in kind f p 2 ∙ o.0) (unfold card_of antenna_for in looks f p ∙ is_false _ o.1) in
+    let own = floor_above (antenna_for (card_of f)) (whole m) (elevation_at (suc d)) (column_at (suc d)) (unfold card_of antenna_for in kind f p 2 (omega arith) (omega arith) ∙ o.0) (unfold card_of antenna_for in looks f p ∙ is_false _ o.1) in
     subst (λ (a : Answer). AboveFloor a.gain a.efficiency) (sym at) (answer_floor (above_ground (antenna_for (card_of f)) (whole m) (elevation_at (suc d)) (column_at (suc d))) own (ap (λ (a : Answer). a.refusal) (sym at) ∙ e))
 
 -- ---- all of them
@@ -147,8 +171,8 @@ the_laws =
       ground_refusal = λ f m h h' F. ground_refusal_lem f m F.passes h h';
       ground_same = λ f m h h' F t. ground_same_lem f m F.passes h h' t;
       ground_gain = λ f m h F t e. ground_gain_lem f m F.passes h t;
-      efficiency_same = λ kop h h' n. unfold is_type in efficiency_same_lem (pos kop) h h' (num 0 1) (is_false (carries_height kop) n);
-      efficiency_of8 = λ h. unfold efficiency_of is_type in refl;
+      efficiency_same = λ kop h h' n. efficiency_same_lem (kind_of (pos kop)) h h' (num 0 1) (carries_number kop ∙ is_false (carries_height kop) n);
+      efficiency_of8 = λ h. unfold efficiency_of kind_of is_type in refl;
       floored = λ f m d h F l t e. unfold floor_plus in floor_holds f m d h F.passes l t e;
     }
   where

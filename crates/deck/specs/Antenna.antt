@@ -1,6 +1,7 @@
 -- The antenna over which demand 3 is stated: cards are the plain fields, a cell's call is the gain call's core. Definitions only.
 use Rattle.std.specs.Prelude.{pos, nat_abs}
 use Rattle.single.specs.Single.{num, whole}
+use Rattle.parameters.specs.Kind.{kind_of}
 use Rattle.lengths.specs.Length.{phase_of, monopole_turn}
 use Rattle.angles.specs.Angles.{wave_of}
 use Rattle.finish.specs.Finish.{efficiency_of}
@@ -20,6 +21,6 @@ the_antenna =
       last = λ f. nat_abs f.last;
       input_refusal = fields_refusal;
       call = λ f. call_of (card_of f);
-      efficiency_of = λ kop h. efficiency_of (pos kop) h (num 0 1);
+      efficiency_of = λ kop h. efficiency_of (kind_of (pos kop)) h (num 0 1);
       wavelengths = λ f m. (phase_of monopole_turn (card_of f).leg (wave_of (whole m))).waves;
     }

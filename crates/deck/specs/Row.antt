@@ -1,7 +1,8 @@
 -- What the filling of a row stores, by the row's own part; and its contract. Definitions only.
-use Rattle.std.specs.Prelude.{◌≡◌, cond, List, ℕ, zero, suc, ℤ, set, Float}
+use Rattle.std.specs.Prelude.{◌≡◌, cond, List, ℕ, zero, suc, set, Float}
 use Rattle.angles.specs.declared.angles.Azimuth.{Azimuth}
 use Rattle.angles.specs.declared.angles.Elevation.{Elevation}
+use Rattle.parameters.specs.declared.kind.Kind.{Kind}
 use Rattle.finish.specs.Finish.{ground_of}
 use Rattle.antennas.specs.declared.antenna.Antenna.{Antenna}
 use Rattle.rows.specs.declared.row.Row.{Row}
@@ -15,8 +16,8 @@ use Rattle.cards.specs.Card.{card_of, antenna_for}
 use Rattle.deck.specs.Antenna.{the_antenna}
 
 -- the ground gain, given the row's gain at the zenith
-unfoldable pub ground_cell : ℤ → Float → Elevation → Float → Float
-ground_cell kop zenith e height = cond (blends_with_zenith kop) (blend_of e zenith (ground_of kop height).gain) (ground_of kop height).gain
+unfoldable pub ground_cell : Kind → Float → Elevation → Float → Float
+ground_cell kind zenith e height = cond (blends_with_zenith kind) (blend_of e zenith (ground_of kind height).gain) (ground_of kind height).gain
 
 -- the gain at d degrees, from 1
 abbrev pub cell_at : Row → Float → Azimuth → ℕ → Float

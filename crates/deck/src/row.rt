@@ -8,16 +8,17 @@ ghost use Rattle.deck.specs.Row.{ground_cell, cell_at, stored_above, RowOfFields
 use crate::columns::Columns;
 use angles::{Azimuth, Elevation};
 use antennas::Antenna;
+use parameters::Kind;
 use refusals::Refusal;
 use rows::Row;
 use table::{COLUMNS, GAINS, Table};
 
 // `zenith` is the row's own gain there, which types 3 and 4 alone take.
-fn ground_cell(kop: i32, zenith: f32, e: Elevation, height: f32) -> f32
-    ensures { result ≡ ground_cell kop zenith e height }
+fn ground_cell(kind: Kind, zenith: f32, e: Elevation, height: f32) -> f32
+    ensures { result ≡ ground_cell kind zenith e height }
 {
-    let low = finish::ground_gain(kop, height);
-    if cells::blends_with_zenith(kop) {
+    let low = finish::ground_gain(kind, height);
+    if cells::blends_with_zenith(kind) {
         return cells::blend(e, zenith, low.gain);
     }
     low.gain
@@ -58,7 +59,7 @@ pub(crate) fn fill_row(
     let row = settled.value;
     let zenith = gain_core::zenith_gain_for(row);
     let e = angles::elevation_of(columns.cosines[0], columns.sines[0]);
-    table[(m - 1) * COLUMNS] = ground_cell(antenna.kop, zenith, e, height);
+    table[(m - 1) * COLUMNS] = ground_cell(antenna.kind, zenith, e, height);
     fill_above(row, zenith, antenna.azimuth, m, columns, table);
     table[GAINS + (m - 1)] = row.eff;
     Ok(row.x)

@@ -6,6 +6,7 @@ use Rattle.elementary.specs.Trigonometric.{sine, cosine}
 use Rattle.angles.specs.Angles.{elevation_of}
 use Rattle.limits.specs.Refusals.{Test, first_refusal}
 use Rattle.limits.specs.Tests.{any_outside, height_test, input_tests}
+use Rattle.parameters.specs.Kind.{kind_of}
 use Rattle.antennas.specs.Antenna.{antenna_of}
 use Rattle.gain_core.specs.Core.{work_of, work_gain, work_efficiency, work_height}
 use Rattle.gain_core.specs.declared.calls.Call.{Call}
@@ -38,7 +39,7 @@ call_refusal call height = first_refusal (call_tests call height)
 -- the work on a call within the limits
 unfoldable pub call_work : GainCall → Float → Option Call
 call_work call height =
-    work_of (antenna_of call.kop call.toaz call.params call.model) call.fmc call.delta
+    work_of (antenna_of (kind_of call.kop) call.toaz call.params call.model) call.fmc call.delta
     (elevation_of (cosine call.delta) (sine call.delta)) height
 
 -- 11 arises in the work

@@ -7,7 +7,7 @@ ghost use Rattle.ioncap.specs.Gain.{call_number, call_gain, call_efficiency, cal
 
 use elementary::SineCosine;
 use gain_core::work;
-use parameters::{IoncapParams, Model};
+use parameters::{IoncapParams, Kind, Model};
 use refusals::Refusal;
 
 // Elevation in radians, off-azimuth in degrees.
@@ -84,7 +84,7 @@ pub fn gain_of(call: GainCall, height: f32) -> Result<Answer, Refusal>
         fmc,
         model,
     } = call;
-    let antenna = antennas::antenna_of(kop, toaz, params, model);
+    let antenna = antennas::antenna_of(Kind::from(kop), toaz, params, model);
     let SineCosine { sine, cosine } = elementary::sin_cos(delta);
     let e = angles::elevation_of(cosine, sine);
     let call = work(antenna, fmc, delta, e, height).ok_or(Refusal::Unsettled)?;

@@ -11,6 +11,7 @@ use Rattle.elementary.specs.Basic.{absolute, cut_toward}
 use Rattle.limits.specs.Refusals.{first_refusal}
 use Rattle.limits.specs.Tests.{is_ioncap_type, outside, any_outside, too_many_bays}
 use Rattle.parameters.specs.Params.{is_type}
+use Rattle.parameters.specs.Kind.{kind_of}
 use Rattle.parameters.specs.Model.{curtain_elevation_threshold}
 use Rattle.finish.specs.Finish.{monopole_efficiency, efficiency_of, floored, ground_of}
 use Rattle.curtain.specs.Floor.{takes_pattern}
@@ -42,7 +43,7 @@ use Rattle.marked_examples.specs.Examples.{same, same_gain, same_cone, same_look
 pub marked_examples_hold : T all_hold
 unfolding all_hold all holds table same same_gain same_cone same_lookup same_bytes gain_of call_refusal call_outside mhz_outside call_work work_of
     at_ground above_ground blends_with_zenith cell_gain cell_of curtain_cell antenna_of sok_for height_for eff8_for row_of pattern_of settled_at
-    Curtain.cell_of rain_of sok_of takes_pattern floored efficiency_of monopole_efficiency ground_of curtain_elevation_threshold is_type first_refusal
+    Curtain.cell_of rain_of sok_of takes_pattern floored efficiency_of monopole_efficiency ground_of curtain_elevation_threshold is_type kind_of first_refusal
     is_ioncap_type outside any_outside too_many_bays absolute cut_toward is_table clamped next_of place_of Table.row_of Table.blended lookup_refusal
     gain_lookup_of cone_freqs cone_elevs cone upper_from upper_of interp_of weight_of cone_at cone_value invcon_number invcon_of integer_field justified
     text decimal spelled fits round add sub mul div le lt eq neg to_bits of_int to_signed

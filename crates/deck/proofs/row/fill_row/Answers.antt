@@ -1,8 +1,5 @@
-use mathlib.Core.Path.{sym, ◌∙◌}
+use mathlib.Core.Path.{refl, sym, ◌∙◌}
 use native.Mathlib.Omega.{arith}
-use mir.Syntax.{w32}
-use mir.ValLaws.{to_z-of_z}
-use borrow.Author.Rules.{rules}
 use Rattle.deck.proofs.Elevations.{column_read}
 use Rattle.deck.proofs.Fills.{row_unsettled, row_settled}
 use Rattle.deck.proofs.row.fill_row.Goals as goal
@@ -13,5 +10,5 @@ returns-in_default c = row_unsettled _ _ _ _ _ (sym c.row_of.ensures.0 ∙ c.in_
 pub returns : goal.returns
 returns c =
     row_settled _ _ _ _ _ _ _ _ _ _ (sym c.row_of.ensures.0 ∙ c.in-Some.is)
-    (to_z-of_z w32 _ (search rules)) c.zenith_gain_for-zenith.ensures (c.elevation_of-e.ensures ∙ column_read _ _ _ 0 c.args.columns.now.elevations (omega arith))
+    refl c.zenith_gain_for-zenith.ensures (c.elevation_of-e.ensures ∙ column_read _ _ _ 0 c.args.columns.now.elevations (omega arith))
     c.ground_cell.ensures c.fill_above.ensures

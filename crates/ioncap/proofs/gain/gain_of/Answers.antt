@@ -1,7 +1,8 @@
 use mathlib.Core.Path.{◌≡◌, sym, ap, ◌∙◌}
-use lib.IntN.{ℤ}
 use mir.Syntax.{w32}
 use mir.ValLaws.{to_z-of_z}
+use Rattle.parameters.specs.Kind.{kind_of}
+use Rattle.parameters.specs.declared.kind.Kind.{Kind}
 use Rattle.antennas.specs.Antenna.{antenna_of}
 use Rattle.ioncap.specs.Gain.{call_work}
 use borrow.Author.Rules.{rules}
@@ -13,7 +14,9 @@ use Rattle.ioncap.proofs.gain.gain_of.Goals.{After-work}
 worked : (c : After-work) → let s = c.args in call_work s.call s.height ≡ c.work.result
 unfolding call_work
 worked c = let call = c.args.call in
-    let antenna : c.antenna_of-antenna.result ≡ antenna_of call.kop call.toaz call.params call.model = c.antenna_of-antenna.ensures ∙ ap (λ (k : ℤ). antenna_of k call.toaz call.params call.model) (to_z-of_z w32 call.kop (search rules)) in
+    let kind : c.from.result ≡ kind_of call.kop = c.from.ensures ∙ ap kind_of (to_z-of_z w32 call.kop (search rules)) in
+    let antenna : c.antenna_of-antenna.result ≡ antenna_of (kind_of call.kop) call.toaz call.params call.model =
+        c.antenna_of-antenna.ensures ∙ ap (λ (k : Kind). antenna_of k call.toaz call.params call.model) kind in
     rw (← antenna, ← c.sin_cos-sine.ensures.0, ← c.sin_cos-sine.ensures.1, ← c.elevation_of-e.ensures, ← c.work.ensures.0)
 
 pub returns-in_err-call_refusal : goal.returns-in_err-call_refusal
