@@ -16,7 +16,7 @@ unfolding call_work
 worked c = let call = c.args.call in
     let kind : c.from.result ≡ kind_of call.kop = c.from.ensures ∙ ap kind_of (to_z-of_z w32 call.kop (search rules)) in
     let antenna : c.antenna_of-antenna.result ≡ antenna_of (kind_of call.kop) call.toaz call.params call.model =
-        c.antenna_of-antenna.ensures ∙ ap (λ (k : Kind). antenna_of k call.toaz call.params call.model) kind in
+    c.antenna_of-antenna.ensures ∙ ap (λ (k : Kind). antenna_of k call.toaz call.params call.model) kind in
     rw (← antenna, ← c.sin_cos-sine.ensures.0, ← c.sin_cos-sine.ensures.1, ← c.elevation_of-e.ensures, ← c.work.ensures.0)
 
 pub returns-in_err-call_refusal : goal.returns-in_err-call_refusal
