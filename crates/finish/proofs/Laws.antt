@@ -1,5 +1,5 @@
 -- Laws of `finish`: what the ground gives, and the floor. Assumes nothing.
-use mathlib.Core.Path.{◌≡◌, refl, sym, subst, ◌∙◌}
+use mathlib.Core.Path.{◌≡◌, refl, sym, subst}
 use mathlib.Core.Bool.{Bool, true, false, not, ◌||◌, cond, true≢false}
 use mathlib.Core.Logic.{◌⊎◌, inl, inr}
 use lib.Dec.{T}
@@ -59,28 +59,34 @@ floored_others K.InterlacedRhombic rain eff sok e = refl
 floored_others K.Other rain eff sok e = refl
 
 -- the floor changes nothing where the sum is the floor's own gain
-floored_same : (kind : Kind) (rain eff sok : Float) → rain ⊞ (eff ⊞ sok) ≡ floor ⊞ eff → floored kind rain eff sok ≡ floor ⊞ eff
-floored_same K.Monopole rain eff sok e = unfold floored in e
-floored_same K.Rhombic rain eff sok e = floored_others K.Rhombic rain eff sok refl ∙ both (le (rain ⊞ (eff ⊞ sok)) floor) (floor ⊞ eff) (rain ⊞ (eff ⊞ sok)) (floor ⊞ eff) refl e
-floored_same K.Dipole rain eff sok e = floored_others K.Dipole rain eff sok refl ∙ both (le (rain ⊞ (eff ⊞ sok)) floor) (floor ⊞ eff) (rain ⊞ (eff ⊞ sok)) (floor ⊞ eff) refl e
-floored_same K.Yagi rain eff sok e = floored_others K.Yagi rain eff sok refl ∙ both (le (rain ⊞ (eff ⊞ sok)) floor) (floor ⊞ eff) (rain ⊞ (eff ⊞ sok)) (floor ⊞ eff) refl e
-floored_same K.LogPeriodic rain eff sok e = floored_others K.LogPeriodic rain eff sok refl ∙ both (le (rain ⊞ (eff ⊞ sok)) floor) (floor ⊞ eff) (rain ⊞ (eff ⊞ sok)) (floor ⊞ eff) refl e
-floored_same K.Curtain rain eff sok e = floored_others K.Curtain rain eff sok refl ∙ both (le (rain ⊞ (eff ⊞ sok)) floor) (floor ⊞ eff) (rain ⊞ (eff ⊞ sok)) (floor ⊞ eff) refl e
-floored_same K.SlopingVee rain eff sok e = floored_others K.SlopingVee rain eff sok refl ∙ both (le (rain ⊞ (eff ⊞ sok)) floor) (floor ⊞ eff) (rain ⊞ (eff ⊞ sok)) (floor ⊞ eff) refl e
-floored_same K.InvertedL rain eff sok e = floored_others K.InvertedL rain eff sok refl ∙ both (le (rain ⊞ (eff ⊞ sok)) floor) (floor ⊞ eff) (rain ⊞ (eff ⊞ sok)) (floor ⊞ eff) refl e
-floored_same K.SlopingRhombic rain eff sok e = floored_others K.SlopingRhombic rain eff sok refl ∙ both (le (rain ⊞ (eff ⊞ sok)) floor) (floor ⊞ eff) (rain ⊞ (eff ⊞ sok)) (floor ⊞ eff) refl e
-floored_same K.InterlacedRhombic rain eff sok e = floored_others K.InterlacedRhombic rain eff sok refl ∙ both (le (rain ⊞ (eff ⊞ sok)) floor) (floor ⊞ eff) (rain ⊞ (eff ⊞ sok)) (floor ⊞ eff) refl e
-floored_same K.Other rain eff sok e = floored_others K.Other rain eff sok refl ∙ both (le (rain ⊞ (eff ⊞ sok)) floor) (floor ⊞ eff) (rain ⊞ (eff ⊞ sok)) (floor ⊞ eff) refl e
+module _ (rain eff sok : Float) (e : rain ⊞ (eff ⊞ sok) ≡ floor ⊞ eff) where
+  cut : cond (le (rain ⊞ (eff ⊞ sok)) floor) (floor ⊞ eff) (rain ⊞ (eff ⊞ sok)) ≡ floor ⊞ eff
+  cut = both (le (rain ⊞ (eff ⊞ sok)) floor) (floor ⊞ eff) (rain ⊞ (eff ⊞ sok)) (floor ⊞ eff) refl e
+
+  floored_same : (kind : Kind) → floored kind rain eff sok ≡ floor ⊞ eff
+  unfolding floored
+  floored_same K.Rhombic = cut
+  floored_same K.Monopole = e
+  floored_same K.Dipole = cut
+  floored_same K.Yagi = cut
+  floored_same K.LogPeriodic = cut
+  floored_same K.Curtain = cut
+  floored_same K.SlopingVee = cut
+  floored_same K.InvertedL = cut
+  floored_same K.SlopingRhombic = cut
+  floored_same K.InterlacedRhombic = cut
+  floored_same K.Other = cut
 
 -- the gain on the ground is -30 plus the efficiency there
 pub ground_gain_lem : (kind : Kind) (height : Float) → (ground_of kind height).gain ≡ floor ⊞ (ground_of kind height).efficiency
 unfolding ground_of
 ground_gain_lem kind height =
     let eff = efficiency_of kind height (num 0 1) in
-    floored_same kind floor eff (num 0 1) (lowered_plus eff (efficiency_fits kind height))
+    floored_same floor eff (num 0 1) (lowered_plus eff (efficiency_fits kind height)) kind
 
 -- the efficiency on the ground depends on the height for types 2 and 5 alone
-pub efficiency_same_lem : (kind : Kind) (h h' eff8 : Float) → (is_kind kind 2 || is_kind kind 5) ≡ false → efficiency_of kind h eff8 ≡ efficiency_of kind h' eff8
+pub efficiency_same_lem : (kind : Kind) (h h' eff8 : Float) → (is_kind kind 2 || is_kind kind 5) ≡ false
+    → efficiency_of kind h eff8 ≡ efficiency_of kind h' eff8
 unfolding efficiency_of
 efficiency_same_lem K.Rhombic h h' eff8 e = refl
 efficiency_same_lem K.Monopole h h' eff8 e = absurd (true≢false e)

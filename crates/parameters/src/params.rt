@@ -2,6 +2,8 @@
 ghost use Rattle.std.specs.Prelude.{◌≡◌};
 ghost use Rattle.parameters.specs.Params.{params_of, ioninit_of};
 
+use crate::kind::Kind;
+
 #[derive(Clone, Copy)]
 pub struct IoncapParams {
     // Ground conductivity, mhos/metre.
@@ -38,17 +40,17 @@ pub fn ioninit(index: i32, parm: &[f32; 20]) -> IoncapParams
 {
     let [_, _, _, _, _, s6, s7, s8, s9, s10, s11, s12, ..] = *parm;
     // An arm for each type, as document 01 has them.
-    match index {
-        1 => params(parm, s6, s7, s8, [0.0, 0.0, 0.0, 0.0]),
-        2 => params(parm, 0.0, s6, s7, [0.0, 0.0, 0.0, 0.0]),
-        3 => params(parm, 0.0, s6, s7, [s8, 0.0, 0.0, 0.0]),
-        4 => params(parm, 0.0, s6, s7, [s8, 0.0, 0.0, 0.0]),
-        5 => params(parm, 0.0, -0.25, 0.0, [s6, 0.0, 0.0, 0.0]),
-        6 => params(parm, s6, s7, s8, [s9, s10, s11, s12]),
-        7 => params(parm, s6, s7, s8, [s9, 0.0, 0.0, 0.0]),
-        8 => params(parm, 0.0, s6, s7, [0.0, 0.0, 0.0, 0.0]),
-        9 => params(parm, s6, s7, s8, [s9, 0.0, 0.0, 0.0]),
-        10 => params(parm, s6, s7, s8, [s9, s10, 0.0, 0.0]),
-        _ => params(parm, 0.0, 0.0, 0.0, [0.0, 0.0, 0.0, 0.0]),
+    match Kind::from(index) {
+        Kind::Rhombic => params(parm, s6, s7, s8, [0.0, 0.0, 0.0, 0.0]),
+        Kind::Monopole => params(parm, 0.0, s6, s7, [0.0, 0.0, 0.0, 0.0]),
+        Kind::Dipole => params(parm, 0.0, s6, s7, [s8, 0.0, 0.0, 0.0]),
+        Kind::Yagi => params(parm, 0.0, s6, s7, [s8, 0.0, 0.0, 0.0]),
+        Kind::LogPeriodic => params(parm, 0.0, -0.25, 0.0, [s6, 0.0, 0.0, 0.0]),
+        Kind::Curtain => params(parm, s6, s7, s8, [s9, s10, s11, s12]),
+        Kind::SlopingVee => params(parm, s6, s7, s8, [s9, 0.0, 0.0, 0.0]),
+        Kind::InvertedL => params(parm, 0.0, s6, s7, [0.0, 0.0, 0.0, 0.0]),
+        Kind::SlopingRhombic => params(parm, s6, s7, s8, [s9, 0.0, 0.0, 0.0]),
+        Kind::InterlacedRhombic => params(parm, s6, s7, s8, [s9, s10, 0.0, 0.0]),
+        Kind::Other => params(parm, 0.0, 0.0, 0.0, [0.0, 0.0, 0.0, 0.0]),
     }
 }

@@ -20,7 +20,9 @@ use Rattle.patterns.specs.declared.pattern.Pattern.{Pattern}
 use Rattle.patterns.specs.declared.pattern.Pattern.TheVariants as P
 
 module _ (antenna : Antenna) (wave : Float) where
-  by_kind : (kind : Kind) → unsettled_number (pattern_by kind antenna wave (leg_of antenna.leg wave) (phase_of height_turn antenna.height wave)) ≡ settled_number (settles_by kind antenna wave)
+  by_kind : (kind : Kind)
+      → unsettled_number (pattern_by kind antenna wave (leg_of antenna.leg wave) (phase_of height_turn antenna.height wave))
+      ≡ settled_number (settles_by kind antenna wave)
   unfolding unsettled_number settled_at dipole_of monopole_for inverted_l_of
   by_kind K.Rhombic = refl
   by_kind K.Monopole = map_number _ _ ∙ monopole_number_lem _ _

@@ -76,7 +76,8 @@ length_finite v wave m w = go (lt v (num 0 1))
     go true = unfold phase_of in mag_finite 1000 (neg v) (neg_mag v 1000 m)
     go false = metres_finite v wave m w
 
-pub height_finite : (kind : Kind) (v fmc : Float) → outside v ≡ false → T (le (num 1 1) fmc) → T (le fmc (num 30 1)) → T (finite (height_for kind (length_of v) (wave_of fmc)))
+pub height_finite : (kind : Kind) (v fmc : Float) → outside v ≡ false → T (le (num 1 1) fmc) → T (le fmc (num 30 1))
+    → T (finite (height_for kind (length_of v) (wave_of fmc)))
 unfolding height_for
 height_finite kind v fmc o low high = go kind
   where

@@ -49,4 +49,5 @@ others K.Other x eff8 n1 n2 n3 n4 n5 n6 n7 = refl
 pub returns-in_default : goal.returns-in_default
 unfolding round of_bits
 returns-in_default c = let d = c.in_default in
-    others c.args.kind c.args.x c.args.eff8 d.not-Rhombic d.not-Monopole d.not-LogPeriodic d.not-SlopingVee d.not-InvertedL d.not-SlopingRhombic d.not-InterlacedRhombic
+    others c.args.kind c.args.x c.args.eff8
+    d.not-Rhombic d.not-Monopole d.not-LogPeriodic d.not-SlopingVee d.not-InvertedL d.not-SlopingRhombic d.not-InterlacedRhombic

@@ -11,8 +11,14 @@ returns-in-Monopole c = rw c.in-Monopole.is
 
 pub returns-then-sum : goal.returns-then-sum
 unfolding round of_bits neg
-returns-then-sum c = rw (floored_others c.args.kind c.args.rain c.args.eff c.args.sok (not_kind c.args.kind K.Monopole c.in_default.not-Monopole), c.if-sum.true)
+returns-then-sum c = rw (
+  floored_others c.args.kind c.args.rain c.args.eff c.args.sok (not_kind c.args.kind K.Monopole c.in_default.not-Monopole),
+  c.if-sum.true,
+)
 
 pub returns-else-sum : goal.returns-else-sum
 unfolding round of_bits neg
-returns-else-sum c = rw (floored_others c.args.kind c.args.rain c.args.eff c.args.sok (not_kind c.args.kind K.Monopole c.in_default.not-Monopole), c.if-sum.false)
+returns-else-sum c = rw (
+  floored_others c.args.kind c.args.rain c.args.eff c.args.sok (not_kind c.args.kind K.Monopole c.in_default.not-Monopole),
+  c.if-sum.false,
+)

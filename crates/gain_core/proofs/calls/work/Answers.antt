@@ -57,7 +57,9 @@ without c = c.without_row.ensures
 
 pub returns-then-without_row : goal.returns-then-without_row
 unfolding round of_bits
-returns-then-without_row c = all_answers _ _ _ _ _ _ (low_only _ _ _ _ _ _ _ refl refl (sym (without (goal.at.returns-then-without_row c).After-without_row) ∙ c.if-without_row.true) _ c.ground_gain-low.ensures)
+returns-then-without_row c =
+    all_answers _ _ _ _ _ _ (low_only _ _ _ _ _ _ _ refl refl
+    (sym (without (goal.at.returns-then-without_row c).After-without_row) ∙ c.if-without_row.true) _ c.ground_gain-low.ensures)
 
 pub returns-in_err-row : goal.returns-in_err-row
 returns-in_err-row c = all_answers _ _ _ _ _ _ (rw c.from_residual.ensures (no_row _ _ _ _ _ _ _ refl refl (sym (without (goal.at.returns-in_err-row c).After-without_row) ∙ c.if-without_row.false) (sym c.row_of.ensures.0 ∙ c.in_err-row.was)))
@@ -66,7 +68,8 @@ pub returns-then-delta : goal.returns-then-delta
 unfolding round of_bits
 returns-then-delta c =
     let low = c.if-delta.true in
-    all_answers _ _ _ _ _ _ (at_zenith _ _ _ _ _ _ (sym c.row_of.ensures.0 ∙ c.in_ok-row.was) _ low refl (rw low at (sym (without (goal.at.returns-then-delta c).After-without_row) ∙ c.if-without_row.false)) _ _ _ c.ground_gain-low-then-delta.ensures c.zenith_gain.ensures c.blend.ensures)
+    all_answers _ _ _ _ _ _ (at_zenith _ _ _ _ _ _
+    (sym c.row_of.ensures.0 ∙ c.in_ok-row.was) _ low refl (rw low at (sym (without (goal.at.returns-then-delta c).After-without_row) ∙ c.if-without_row.false)) _ _ _ c.ground_gain-low-then-delta.ensures c.zenith_gain.ensures c.blend.ensures)
 
 pub returns : goal.returns
 unfolding round of_bits

@@ -1,74 +1,83 @@
-use mathlib.Core.Path.{◌≡◌}
-use Prim.Native.Nat.{ℕ}
-use lib.IntN.{ℤ}
-use mir.Syntax.{w32}
-use mir.Val.{of_z, to_z}
+use mathlib.Core.Path.{◌≡◌, sym, ap, ◌∙◌}
+use mathlib.Core.List.{List}
+use lib.IntN.{ℤ, pos}
+use lib.Ieee.{Float, round, of_bits}
+use native.Mathlib.Omega.{arith}
 use borrow.Author.Rules.{rules}
-use lib.Ieee.{round, of_bits}
+use mir.Syntax.{w32}
+use mir.Val.{SFits, of_z, to_z}
+use mir.ValLaws.{to_z-of_z}
 use Rattle.parameters.specs.Params.{is_type, ioninit_of}
-use Rattle.parameters.proofs.Types.{no_type, is_type_lem}
+use Rattle.parameters.specs.Kind.{kind_of, number_of}
+use Rattle.parameters.specs.declared.kind.Kind.{Kind}
+use Rattle.parameters.proofs.Numbers.{is_kind_lem}
 use Rattle.parameters.proofs.params.ioninit.Goals as goal
-use Rattle.parameters.proofs.params.ioninit.Goals.{After-s12-1}
 
--- the type, where a key of the match is its pattern
-abbrev type_of : After-s12-1 → ℤ
-type_of c = c.before.before.before.before.before.before.before.args.index
+-- the parameters are those of the type's own number
+by_number : (index : ℤ) (parm : List Float) → ioninit_of (pos (number_of (kind_of index))) parm ≡ ioninit_of index parm
+unfolding ioninit_of is_type
+by_number index parm =
+    rw (
+      ← is_kind_lem index 1 (omega arith) (omega arith),
+      ← is_kind_lem index 2 (omega arith) (omega arith),
+      ← is_kind_lem index 3 (omega arith) (omega arith),
+      ← is_kind_lem index 4 (omega arith) (omega arith),
+      ← is_kind_lem index 5 (omega arith) (omega arith),
+      ← is_kind_lem index 6 (omega arith) (omega arith),
+      ← is_kind_lem index 7 (omega arith) (omega arith),
+      ← is_kind_lem index 8 (omega arith) (omega arith),
+      ← is_kind_lem index 9 (omega arith) (omega arith),
+      ← is_kind_lem index 10 (omega arith) (omega arith),
+    )
 
-typed : (c : After-s12-1) {n : ℕ} → of_z w32 (type_of c) ≡ n → type_of c ≡ to_z w32 n
-typed c e = is_type_lem (type_of c) (search rules) e
+-- the machine reads the type back from its 32 bits
+typed : (index : ℤ) (parm : List Float) {read kind : Kind} → SFits w32 index → read ≡ kind_of (to_z w32 (of_z w32 index)) → read ≡ kind
+    → ioninit_of (pos (number_of kind)) parm ≡ ioninit_of index parm
+typed index parm {read} {kind} fits is e =
+    let type : kind_of index ≡ kind = sym (is ∙ ap kind_of (to_z-of_z w32 index fits)) ∙ e in
+    sym (ap (λ (k : Kind). ioninit_of (pos (number_of k)) parm) type) ∙ by_number index parm
 
--- any other type
-pub returns-in_default : goal.returns-in_default
-unfolding ioninit_of round of_bits
-returns-in_default c = let r = c.in_default.in_default-own.rest in rw (
-  no_type _ 1 r.0.0.0.0.0.0.0.0.0.1,
-  no_type _ 2 r.0.0.0.0.0.0.0.0.1,
-  no_type _ 3 r.0.0.0.0.0.0.0.1,
-  no_type _ 4 r.0.0.0.0.0.0.1,
-  no_type _ 5 r.0.0.0.0.0.1,
-  no_type _ 6 r.0.0.0.0.1,
-  no_type _ 7 r.0.0.0.1,
-  no_type _ 8 r.0.0.1,
-  no_type _ 9 r.0.1,
-  no_type _ 10 r.1,
-) c.params-in_default.ensures
-
-pub returns-in-1 : goal.returns-in-1
+pub returns-in-Rhombic : goal.returns-in-Rhombic
 unfolding ioninit_of is_type round of_bits
-returns-in-1 c = rw (typed c.before.before c.in-1.in-1-own.keys1) c.params.ensures
+returns-in-Rhombic c = c.params.ensures ∙ typed c.args.index c.args.parm.now (search rules) c.from.ensures c.in-Rhombic.is
 
-pub returns-in-2 : goal.returns-in-2
+pub returns-in-Monopole : goal.returns-in-Monopole
 unfolding ioninit_of is_type round of_bits
-returns-in-2 c = rw (typed c.before.before c.in-2.in-2-own.keys2) c.params-in-2.ensures
+returns-in-Monopole c = c.params-in-Monopole.ensures ∙ typed c.args.index c.args.parm.now (search rules) c.from.ensures c.in-Monopole.is
 
-pub returns-in-3 : goal.returns-in-3
+pub returns-in-Dipole : goal.returns-in-Dipole
 unfolding ioninit_of is_type round of_bits
-returns-in-3 c = rw (typed c.before.before c.in-3.in-3-own.keys3) c.params-in-3.ensures
+returns-in-Dipole c = c.params-in-Dipole.ensures ∙ typed c.args.index c.args.parm.now (search rules) c.from.ensures c.in-Dipole.is
 
-pub returns-in-4 : goal.returns-in-4
+pub returns-in-Yagi : goal.returns-in-Yagi
 unfolding ioninit_of is_type round of_bits
-returns-in-4 c = rw (typed c.before.before c.in-4.in-4-own.keys4) c.params-in-4.ensures
+returns-in-Yagi c = c.params-in-Yagi.ensures ∙ typed c.args.index c.args.parm.now (search rules) c.from.ensures c.in-Yagi.is
 
-pub returns-in-5 : goal.returns-in-5
+pub returns-in-LogPeriodic : goal.returns-in-LogPeriodic
 unfolding ioninit_of is_type round of_bits
-returns-in-5 c = rw (typed c.before.before c.in-5.in-5-own.keys5) c.params-in-5.ensures
+returns-in-LogPeriodic c = c.params-in-LogPeriodic.ensures ∙ typed c.args.index c.args.parm.now (search rules) c.from.ensures c.in-LogPeriodic.is
 
-pub returns-in-6 : goal.returns-in-6
+pub returns-in-Curtain : goal.returns-in-Curtain
 unfolding ioninit_of is_type round of_bits
-returns-in-6 c = rw (typed c.before.before c.in-6.in-6-own.keys6) c.params-in-6.ensures
+returns-in-Curtain c = c.params-in-Curtain.ensures ∙ typed c.args.index c.args.parm.now (search rules) c.from.ensures c.in-Curtain.is
 
-pub returns-in-7 : goal.returns-in-7
+pub returns-in-SlopingVee : goal.returns-in-SlopingVee
 unfolding ioninit_of is_type round of_bits
-returns-in-7 c = rw (typed c.before.before c.in-7.in-7-own.keys7) c.params-in-7.ensures
+returns-in-SlopingVee c = c.params-in-SlopingVee.ensures ∙ typed c.args.index c.args.parm.now (search rules) c.from.ensures c.in-SlopingVee.is
 
-pub returns-in-8 : goal.returns-in-8
+pub returns-in-InvertedL : goal.returns-in-InvertedL
 unfolding ioninit_of is_type round of_bits
-returns-in-8 c = rw (typed c.before.before c.in-8.in-8-own.keys8) c.params-in-8.ensures
+returns-in-InvertedL c = c.params-in-InvertedL.ensures ∙ typed c.args.index c.args.parm.now (search rules) c.from.ensures c.in-InvertedL.is
 
-pub returns-in-9 : goal.returns-in-9
+pub returns-in-SlopingRhombic : goal.returns-in-SlopingRhombic
 unfolding ioninit_of is_type round of_bits
-returns-in-9 c = rw (typed c.before.before c.in-9.in-9-own.keys9) c.params-in-9.ensures
+returns-in-SlopingRhombic c = c.params-in-SlopingRhombic.ensures ∙ typed c.args.index c.args.parm.now (search rules) c.from.ensures c.in-SlopingRhombic.is
 
-pub returns-in-10 : goal.returns-in-10
+pub returns-in-InterlacedRhombic : goal.returns-in-InterlacedRhombic
 unfolding ioninit_of is_type round of_bits
-returns-in-10 c = rw (typed c.before.before c.in-10.in-10-own.keys10) c.params-in-10.ensures
+returns-in-InterlacedRhombic c = c.params-in-InterlacedRhombic.ensures
+    ∙ typed c.args.index c.args.parm.now (search rules) c.from.ensures c.in-InterlacedRhombic.is
+
+pub returns-in-Other : goal.returns-in-Other
+unfolding ioninit_of is_type round of_bits
+returns-in-Other c = c.params-in-Other.ensures ∙ typed c.args.index c.args.parm.now (search rules) c.from.ensures c.in-Other.is

@@ -22,16 +22,20 @@ module _ (c : After-phase_in_waves-above) where
   wave = c.args.wave
 
   -- an arm of the match: the type is its own
-  answered : {k : Kind} (r : Option (Settled Pattern)) → antenna.kind ≡ k → r ≡ pattern_by k antenna wave c.leg_in_waves-along.result c.phase_in_waves-above.result
+  answered : {k : Kind} (r : Option (Settled Pattern)) → antenna.kind ≡ k
+      → r ≡ pattern_by k antenna wave c.leg_in_waves-along.result c.phase_in_waves-above.result
       → IsAnswer unsettled_number (settled_value P.Other) P.Other 11 (pattern_of antenna wave) (pattern_settles antenna wave) r
   unfolding round of_bits
-  answered r k = type_answers antenna wave c.leg_in_waves-along.result c.phase_in_waves-above.result r k c.leg_in_waves-along.ensures c.phase_in_waves-above.ensures
+  answered r k =
+      type_answers antenna wave c.leg_in_waves-along.result c.phase_in_waves-above.result r k c.leg_in_waves-along.ensures c.phase_in_waves-above.ensures
 
 pub returns-in-Rhombic : goal.returns-in-Rhombic
 returns-in-Rhombic c = answered c.before.before.before _ c.in-Rhombic.is (rw (← c.legs_of.ensures) c.settled.ensures)
 
 pub returns-in-InterlacedRhombic : goal.returns-in-InterlacedRhombic
-returns-in-InterlacedRhombic c = answered c.before.before.before.before _ c.in-InterlacedRhombic.is (rw (← c.legs_of-in-InterlacedRhombic.ensures, ← c.offset_of.ensures) c.settled-in-InterlacedRhombic.ensures)
+returns-in-InterlacedRhombic c =
+    answered c.before.before.before.before _ c.in-InterlacedRhombic.is
+    (rw (← c.legs_of-in-InterlacedRhombic.ensures, ← c.offset_of.ensures) c.settled-in-InterlacedRhombic.ensures)
 
 pub returns-in-InvertedL : goal.returns-in-InvertedL
 returns-in-InvertedL c = answered c.before.before _ c.in-InvertedL.is c.inverted_l_of.ensures
@@ -43,13 +47,20 @@ pub returns-in-SlopingRhombic : goal.returns-in-SlopingRhombic
 returns-in-SlopingRhombic c = answered c.before.before.before _ c.in-SlopingRhombic.is (rw (← c.rhombic_slope.ensures) c.settled-in-SlopingRhombic.ensures)
 
 pub returns-in-Curtain : goal.returns-in-Curtain
-returns-in-Curtain c = answered c.before.before.before.before _ c.in-Curtain.is (rw (← c.curtain_card.ensures, ← c.curtain_row.ensures) c.settled-in-Curtain.ensures)
+returns-in-Curtain c =
+    answered c.before.before.before.before _ c.in-Curtain.is (rw (← c.curtain_card.ensures, ← c.curtain_row.ensures) c.settled-in-Curtain.ensures)
 
 pub returns-in-Dipole : goal.returns-in-Dipole
-returns-in-Dipole c = elim c.in-Dipole.is [ inl e ↦ answered c.before.before _ e c.dipole_of.ensures | inr e ↦ answered c.before.before _ e c.dipole_of.ensures ]
+returns-in-Dipole c = elim c.in-Dipole.is [
+  | inl e ↦ answered c.before.before _ e c.dipole_of.ensures
+  | inr e ↦ answered c.before.before _ e c.dipole_of.ensures
+]
 
 pub returns-in-Monopole : goal.returns-in-Monopole
-returns-in-Monopole c = elim c.in-Monopole.is [ inl e ↦ answered c.before.before _ e c.monopole_of.ensures | inr e ↦ answered c.before.before _ e c.monopole_of.ensures ]
+returns-in-Monopole c = elim c.in-Monopole.is [
+  | inl e ↦ answered c.before.before _ e c.monopole_of.ensures
+  | inr e ↦ answered c.before.before _ e c.monopole_of.ensures
+]
 
 pub returns-in-Other : goal.returns-in-Other
 returns-in-Other c = answered c.before.before _ c.in-Other.is c.settled-in-Other.ensures

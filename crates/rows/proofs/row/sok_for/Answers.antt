@@ -17,7 +17,8 @@ pub returns-in-SlopingVee : goal.returns-in-SlopingVee
 unfolding sok_for round of_bits
 returns-in-SlopingVee c = elim c.in-SlopingVee.is [ inl e ↦ rw e | inr (inl e) ↦ rw e | inr (inr e) ↦ rw e ]
 
-others : (kind : Kind) (params : IoncapParams) → (kind ≡ K.Monopole → ⊥) → (kind ≡ K.SlopingVee → ⊥) → (kind ≡ K.SlopingRhombic → ⊥) → (kind ≡ K.InterlacedRhombic → ⊥)
+others : (kind : Kind) (params : IoncapParams)
+    → (kind ≡ K.Monopole → ⊥) → (kind ≡ K.SlopingVee → ⊥) → (kind ≡ K.SlopingRhombic → ⊥) → (kind ≡ K.InterlacedRhombic → ⊥)
     → sok_for kind params ≡ get_or params.aex 0 nan
 unfolding sok_for
 others K.Rhombic params n2 n7 n9 n10 = refl
@@ -33,4 +34,5 @@ others K.InterlacedRhombic params n2 n7 n9 n10 = absurd (n10 refl)
 others K.Other params n2 n7 n9 n10 = refl
 
 pub returns-in_default : goal.returns-in_default
-returns-in_default c = let d = c.in_default in rw (others c.args.kind c.args.params d.not-Monopole d.not-SlopingVee d.not-SlopingRhombic d.not-InterlacedRhombic)
+returns-in_default c = let d = c.in_default in
+    rw (others c.args.kind c.args.params d.not-Monopole d.not-SlopingVee d.not-SlopingRhombic d.not-InterlacedRhombic)
