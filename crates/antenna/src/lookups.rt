@@ -37,6 +37,7 @@ pub fn gain_lookup_in_bytes(bytes: &[u8], fmc: f32, delta: f32) -> Result<GainEf
     lookup(bytes, fmc, delta)
 }
 
+// The verdict is a number still: a caller may hold any, and a narrower type would ask more of it.
 // By the card's first and last MHz and its verdict: only the rows that it filled are read, outside its
 // range the nearest one, and a refused card gives zeros.
 pub fn card_lookup(

@@ -2,7 +2,8 @@
 ghost use Rattle.std.specs.Prelude.{◌≡◌};
 ghost use Rattle.curtain.specs.Gain.{rain_of, sok_of};
 
-// Floor: near the vertical, where the element slot is added. Weak: nothing is added.
+// Floor: near the vertical, where the element slot is added. Weak: nothing is added. Three cases, so
+// no Option.
 #[derive(Clone, Copy)]
 pub enum CurtainGain {
     Floor,

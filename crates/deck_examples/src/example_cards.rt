@@ -59,6 +59,7 @@ pub(crate) const ENTRIES: usize = 10;
 
 const MALFORMED: usize = 7;
 
+// By the entry's place in the deck: an array of cards is no plainer.
 pub(crate) fn entry_card(k: usize) -> Fields {
     match k {
         1 => rhombic(2, 4),

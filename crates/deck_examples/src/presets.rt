@@ -66,6 +66,7 @@ fn deck_of(height: f32, accepted: u32, refused: u32) -> Deck {
 
 const PRESETS: usize = 17;
 
+// By the place in the list that is printed: an array of decks is no plainer.
 fn preset_deck(k: usize) -> Deck {
     match k {
         0 => deck_of(0.5, 999_999, 0),

@@ -29,7 +29,7 @@ pub fn bytes_of(x: f32) -> [u8; 4]
     bits(x).to_le_bytes()
 }
 
-// The f32 of four bytes, the lowest first.
+// The f32 of four bytes, the lowest first. Four parameters: a lookup reads them one by one.
 pub fn float_of(b0: u8, b1: u8, b2: u8, b3: u8) -> f32
     ensures { result ≡ float_of b0 b1 b2 b3 }
 {

@@ -31,6 +31,7 @@ fn quotient(n: u64) -> f32
     }
     let mut m = n * 1024;
     let mut k: u32 = 139;
+    // Until m is large enough: no index over anything.
     while m < 83_886_080_000 {
         m *= 2;
         k -= 1;

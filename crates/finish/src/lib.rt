@@ -49,7 +49,8 @@ pub fn efficiency(kind: Kind, x: f32, eff8: f32) -> f32
     }
 }
 
-// Label 405: efficiency and offset, then the floor, which type 2 alone has not.
+// Label 405: efficiency and offset, then the floor, which type 2 alone has not. A match on the type,
+// as document 01 has it.
 pub fn with_floor(kind: Kind, rain: f32, eff: f32, sok: f32) -> f32
     ensures { result ≡ floored kind rain eff sok }
 {

@@ -167,7 +167,8 @@ fn floors(rt: &impl Print) -> io::Result<()> {
     show(rt, vertical(2, 0.0), b"type 2 at elevation 0")
 }
 
-// A dipole's call with one of the twelve numbers replaced.
+// A dipole's call with one of the twelve numbers replaced, by its place in the call: the places are of
+// several structs, so a closure for each is no plainer.
 fn replaced(place: u32, value: f32) -> GainCall {
     let mut call = dipole(0.3, 7.0);
     match place {

@@ -40,7 +40,8 @@ fn flush_full(to: Stdout, state: State, out: &[u8]) -> Result<State>
     flush(to, state, out)
 }
 
-// The whole piece: lines that end in it are listed, the rest is held.
+// The whole piece: lines that end in it are listed, the rest is held. A step takes as many bytes as a
+// line has, so no `for` counts them.
 fn list_piece(
     to: Stdout,
     state: State,

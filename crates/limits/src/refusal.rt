@@ -14,6 +14,7 @@ fn is_ioncap_type(kop: i32) -> bool
     (1..=10).contains(&kop)
 }
 
+// By the number as it was handed in, which may be no type's.
 fn too_many_bays(kop: i32, bays: f32) -> bool
     ensures { result ≡ too_many_bays kop bays }
 {

@@ -14,6 +14,7 @@ pub(crate) struct Gathered {
     pub end: Option<usize>,
 }
 
+// The buffer is lent by the caller, and what is held of it is the session's: no memory of its own.
 fn push(line: &mut [u8], held: usize, b: u8) -> usize
     requires { (length line.old ≡ most_held) × (held ≤ most_held) }
     ensures { (take result line.new ≡ grown (take held line.old) b) × (result ≤ most_held) × (held ≤ result)

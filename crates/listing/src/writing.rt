@@ -42,6 +42,7 @@ impl Writer<'_> {
         self.at += 1;
     }
 
+    // The refusal is a number here, since that is what is printed.
     pub(crate) fn heading(&mut self, place: u32, kop: i32, refusal: u32)
         requires { HasRoom self.old 14 }
         ensures { Written self.old (heading_text place kop refusal) self.new }

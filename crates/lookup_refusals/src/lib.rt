@@ -26,7 +26,8 @@ pub fn lookup_refusal(table: &[f32], fmc: f32, delta: f32) -> Result<(), Refusal
     refusal_by_length(table::is_table(table), fmc, delta)
 }
 
-// A refused card's first and last MHz are not looked at.
+// A refused card's first and last MHz are not looked at. The verdict is a number still: a caller may
+// hold any, and a narrower type would ask more of it.
 pub fn card_refusal(
     first: i32,
     last: i32,

@@ -21,7 +21,8 @@ use std::rt::Files;
 use std::{fs, io};
 use vectors::{MOST_LINES, Tally};
 
-// Reads until buf is full or the file ends, and returns how many bytes it put at the start of buf.
+// Reads until buf is full or the file ends, and returns how many bytes it put at the start of buf. A
+// read may give fewer than asked, so no `for` counts them.
 fn read_full<F: Read>(file: &mut F, buf: &mut [u8]) -> io::Result<usize>
     ensures bound { IfOk result (λ n. n ≤ length buf.new) }
     ensures bytes { IfOk result (λ n. Consumes (F.remaining file.old) (F.remaining file.new) (take n buf.new)) }

@@ -4,6 +4,7 @@ ghost use Rattle.std.specs.Float.{binary32};
 ghost use Rattle.std.specs.Float.Ieee.{lt};
 ghost use Rattle.output.specs.Hundredths.{hundredths_of, size_of};
 
+// Three cases, so no Option.
 #[derive(Clone, Copy)]
 pub enum Hundredths {
     NotANumber,

@@ -39,7 +39,7 @@ pub fn ioninit(index: i32, parm: &[f32; 20]) -> IoncapParams
     ensures { result ≡ ioninit_of index parm.now }
 {
     let [_, _, _, _, _, s6, s7, s8, s9, s10, s11, s12, ..] = *parm;
-    // An arm for each type, as document 01 has them.
+    // An arm for each type: document 01 speaks of ten arms.
     match Kind::from(index) {
         Kind::Rhombic => params(parm, s6, s7, s8, [0.0, 0.0, 0.0, 0.0]),
         Kind::Monopole => params(parm, 0.0, s6, s7, [0.0, 0.0, 0.0, 0.0]),

@@ -8,6 +8,7 @@ ghost use Rattle.resistance.specs.Resistance.{cin_of, resistance_from, resistanc
 
 use integrals::{Integrals, Settled};
 
+// The dipoles' has another constant, and neither crate needs the other: one function is no plainer.
 fn cin_of(v: f32, ci: f32) -> f32
     ensures { result ≡ cin_of v ci }
 {
