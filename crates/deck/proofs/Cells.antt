@@ -33,9 +33,14 @@ module _ (c : Card) (m : ℕ) where
   unfolding call_of
   call_ground h = ap answer_of (below (antenna_for c) (whole m) (elevation_at 0) (column_at 0) h (is_true (le (elevation_at 0) (num 0 1)) elevation_ground))
 
-  at_ground_lem : (h : Float) (P : Answer → Type 0)
-      → ((up : Bool) → blends_with_zenith (antenna_for c).kind ≡ up → P (answer_of (at_ground (antenna_for c) (whole m) (column_at 0) h))) → P (call_of c m 0 h)
-  at_ground_lem h P by = rw (call_ground h) (by (blends_with_zenith (antenna_for c).kind) refl)
+  abbrev blends : Bool
+  blends = blends_with_zenith (antenna_for c).kind
+
+  abbrev ground : Float → Answer
+  ground h = answer_of (at_ground (antenna_for c) (whole m) (column_at 0) h)
+
+  at_ground_lem : (h : Float) (P : Answer → Type 0) → ((up : Bool) → blends ≡ up → P (ground h)) → P (call_of c m 0 h)
+  at_ground_lem h P by = rw (call_ground h) (by blends refl)
 
   -- ---- a row whose series do not settle refuses every cell above the ground
   module _ (un : row_of (antenna_for c) (whole m) ≡ None) where
@@ -46,7 +51,12 @@ module _ (c : Card) (m : ℕ) where
 
     pub ground_unsettled : (h : Float) → ((call_of c m 0 h).refusal ≡ 0) ⊎ ((call_of c m 0 h).refusal ≡ 11)
     unfolding at_ground unsettled_number
-    ground_unsettled h = at_ground_lem h (λ a. (a.refusal ≡ 0) ⊎ (a.refusal ≡ 11)) (λ up. elim up as (λ k. blends_with_zenith (antenna_for c).kind ≡ k → ((answer_of (at_ground (antenna_for c) (whole m) (column_at 0) h)).refusal ≡ 0) ⊎ ((answer_of (at_ground (antenna_for c) (whole m) (column_at 0) h)).refusal ≡ 11)) [ true ↦ λ e. rw (e, un) (inr refl) | false ↦ λ e. rw e (inl refl) ])
+    ground_unsettled h =
+        at_ground_lem h (λ a. (a.refusal ≡ 0) ⊎ (a.refusal ≡ 11))
+        (λ up. elim up as (λ k. blends ≡ k → ((ground h).refusal ≡ 0) ⊎ ((ground h).refusal ≡ 11)) [
+          | true ↦ λ e. rw (e, un) (inr refl)
+          | false ↦ λ e. rw e (inl refl)
+        ])
 
   -- ---- a row that settles
   module _ (settled : Settled Row) (is : row_of (antenna_for c) (whole m) ≡ Some settled) where
@@ -64,8 +74,14 @@ module _ (c : Card) (m : ℕ) where
     pub row_height : row.x ≡ height_for (antenna_for c).kind (antenna_for c).leg (wave_of (whole m))
     row_height = own.1
 
-    pub ground_settled : (h : Float) → ((call_of c m 0 h).refusal ≡ 0) × ((call_of c m 0 h).gain ≡ ground_cell (antenna_for c).kind (zenith_gain_for row) (column_at 0) h)
+    abbrev Ground : Float → Answer → Type 0
+    Ground h a = (a.refusal ≡ 0) × (a.gain ≡ ground_cell (antenna_for c).kind (zenith_gain_for row) (column_at 0) h)
+
+    pub ground_settled : (h : Float) → Ground h (call_of c m 0 h)
     unfolding at_ground zenith_gain_for ground_cell unsettled_number
     ground_settled h =
-        at_ground_lem h (λ a. (a.refusal ≡ 0) × (a.gain ≡ ground_cell (antenna_for c).kind (zenith_gain_for row) (column_at 0) h))
-        (λ up. elim up as (λ k. blends_with_zenith (antenna_for c).kind ≡ k → ((answer_of (at_ground (antenna_for c) (whole m) (column_at 0) h)).refusal ≡ 0) × ((answer_of (at_ground (antenna_for c) (whole m) (column_at 0) h)).gain ≡ ground_cell (antenna_for c).kind (zenith_gain_for row) (column_at 0) h)) [ true ↦ λ e. rw (e, is, ap blends_with_zenith own.0 ∙ e) (refl, refl) | false ↦ λ e. rw e (refl, refl) ])
+        at_ground_lem h (Ground h)
+        (λ up. elim up as (λ k. blends ≡ k → Ground h (ground h)) [
+          | true ↦ λ e. rw (e, is, ap blends_with_zenith own.0 ∙ e) (refl, refl)
+          | false ↦ λ e. rw e (refl, refl)
+        ])

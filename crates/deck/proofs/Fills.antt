@@ -63,7 +63,8 @@ module _ (f : Fields) (m : ℕ) (F : Fills the_antenna f m) (s : Settled Row) (i
       (sym (ap (λ (a : Answer). a.efficiency) (above_settled (card_of f) m s is 89 row.x (omega arith))))
       (row_height (card_of f) m s is ∙ (unfold card_of antenna_for in left_is f m F.passes))
 
-pub row_settled : (a : Antenna) (m : ℕ) (h up g : Float) (kind : Kind) (e₀ : Elevation) (t₀ t : List Float) (s : Settled Row) → row_of a (whole m) ≡ Some s
+pub row_settled : (a : Antenna) (m : ℕ) (h up g : Float) (kind : Kind) (e₀ : Elevation) (t₀ t : List Float) (s : Settled Row)
+    → row_of a (whole m) ≡ Some s
     → kind ≡ a.kind → up ≡ zenith_gain_for s.value → e₀ ≡ column_at 0
     → g ≡ ground_cell kind up e₀ h → t ≡ stored_above (cell_at s.value up a.azimuth) m 90 (set t₀ ((m - 1) * 91) g)
     → RowOfFields a m h t₀ (set t (2730 + (m - 1)) s.value.eff) 0 s.value.x

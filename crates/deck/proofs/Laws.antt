@@ -79,7 +79,8 @@ module _ (f : Fields) (p : fields_refusal f ≡ 0) where
   looks = blends_kind (kind_of f.kop) ∙ ap₂ ◌||◌ (kind 3 (omega arith) (omega arith)) (kind 4 (omega arith) (omega arith))
 
 -- ---- the height that a row leaves
-height_kind : (kind : Kind) (leg : Length) (wave : Float) → height_for kind leg wave ≡ cond (is_kind kind 2 || is_kind kind 5) (phase_of monopole_turn leg wave).waves (num 1 1)
+height_kind : (kind : Kind) (leg : Length) (wave : Float)
+    → height_for kind leg wave ≡ cond (is_kind kind 2 || is_kind kind 5) (phase_of monopole_turn leg wave).waves (num 1 1)
 unfolding height_for
 height_kind K.Rhombic leg wave = refl
 height_kind K.Monopole leg wave = refl
@@ -93,7 +94,8 @@ height_kind K.SlopingRhombic leg wave = refl
 height_kind K.InterlacedRhombic leg wave = refl
 height_kind K.Other leg wave = refl
 
-pub left_is : (f : Fields) (m : ℕ) → fields_refusal f ≡ 0 → height_for (kind_of f.kop) (card_of f).leg (wave_of (whole m)) ≡ height_left the_antenna f m
+pub left_is : (f : Fields) (m : ℕ) → fields_refusal f ≡ 0
+    → height_for (kind_of f.kop) (card_of f).leg (wave_of (whole m)) ≡ height_left the_antenna f m
 unfolding height_left
 left_is f m p = height_kind (kind_of f.kop) (card_of f).leg (wave_of (whole m)) ∙ rw (carries f p) refl
 
@@ -138,7 +140,8 @@ module _ (f : Fields) (m : ℕ) (p : fields_refusal f ≡ 0) where
   ground_is h n =
       call_ground (card_of f) m h ∙ ap answer_of (ground_value (antenna_for (card_of f)) (whole m) (column_at 0) h (looks f p ∙ is_false _ n))
 
-  ground_gain_lem : (h : Float) → T (not (has_second_call (nat_abs f.kop))) → (call_of (card_of f) m 0 h).gain ≡ floor_plus (efficiency_of (kind_of (pos (nat_abs f.kop))) h (num 0 1))
+  ground_gain_lem : (h : Float) → T (not (has_second_call (nat_abs f.kop)))
+      → (call_of (card_of f) m 0 h).gain ≡ floor_plus (efficiency_of (kind_of (pos (nat_abs f.kop))) h (num 0 1))
   unfolding floor_plus
   ground_gain_lem h n = ap (λ (a : Answer). a.gain) (ground_is h n) ∙ ap (λ (k : ℤ). floor ⊞ efficiency_of (kind_of k) h (num 0 1)) (is_type_lem f p)
 
@@ -155,7 +158,9 @@ floor_holds f m zero h p l t e =
 floor_holds f m (suc d) h p l t e =
     let o = or-false (eqb (nat_abs f.kop) 2) (has_second_call (nat_abs f.kop)) t in
     let at = call_above (card_of f) m d h (omega arith) in
-    let own = floor_above (antenna_for (card_of f)) (whole m) (elevation_at (suc d)) (column_at (suc d)) (unfold card_of antenna_for in kind f p 2 (omega arith) (omega arith) ∙ o.0) (unfold card_of antenna_for in looks f p ∙ is_false _ o.1) in
+    let own = floor_above (antenna_for (card_of f)) (whole m) (elevation_at (suc d)) (column_at (suc d))
+    (unfold card_of antenna_for in kind f p 2 (omega arith) (omega arith) ∙ o.0)
+    (unfold card_of antenna_for in looks f p ∙ is_false _ o.1) in
     subst (λ (a : Answer). AboveFloor a.gain a.efficiency) (sym at) (answer_floor (above_ground (antenna_for (card_of f)) (whole m) (elevation_at (suc d)) (column_at (suc d))) own (ap (λ (a : Answer). a.refusal) (sym at) ∙ e))
 
 -- ---- all of them
