@@ -1,6 +1,7 @@
 -- `as i32`, by the tests that the code makes: the range, beyond it either way, and NaN. Assumes nothing.
-use Rattle.std.proofs.Common.{◌≡◌, ℕ, ◌+◌, ◌-◌, ◌*◌, ◌/◌, ◌^◌, ◌<◌, ◌≤◌, min, true, false, T, ltb, ℤ, pos, negsuc, neg_ℤ, sym, refl, ap, ◌∙◌, subst, true≢false, div-lt_iff_lt-mul, le-div_iff_mul-le, zero-mul, arith, ltb-false, ltb-true, lt-ltb}
+use Rattle.std.proofs.Common.{◌≡◌, ℕ, ◌+◌, ◌-◌, ◌*◌, ◌/◌, ◌^◌, ◌<◌, ◌≤◌, min, true, false, T, ltb, ℤ, pos, negsuc, neg_ℤ, sym, refl, ap, ◌∙◌, subst, true≢false, div-lt_iff_lt-mul, le-div_iff_mul-le, zero-mul, arith, ltb-false, ltb-true, lt-ltb, w32, SFits}
 use lib.Ieee.{Float, nan, inf, fin, up, down, lt, le, eq, to_signed}
+use lib.Ieee.Casts.{to_signed_in}
 use lib.Ieee.Fits.{down_pos}
 use Rattle.single.proofs.Booleans.{holds, or_left}
 use Rattle.single.proofs.Magnitude.{Mag, mag_of, or_i}
@@ -16,6 +17,10 @@ high = fin false 1 (pos 31)
 
 abbrev none : Float
 none = fin false 0 (pos 0)
+
+pub cut_fits : (x : Float) → SFits w32 (cut_toward x)
+unfolding cut_toward
+cut_fits x = record { sfits = to_signed_in 31 x }
 
 pub range_mag : (x : Float) → le low x ≡ true → lt x high ≡ true → Mag (2 ^ 31) x
 unfolding le

@@ -3,7 +3,7 @@ use Rattle.std.specs.Prelude.{Float}
 use Rattle.std.specs.Float.Ieee.{neg}
 use Rattle.single.specs.Single.{◌⊞◌, ◌⊟◌, ◌⊠◌, ◌⊘◌, num}
 use Rattle.root.specs.Root.{root}
-use Rattle.elementary.specs.Trigonometric.{sine, cosine}
+use Rattle.elementary.specs.Trigonometric.{sine_cosine_of}
 use Rattle.trigonometric.specs.declared.trigonometric.SineCosine.{SineCosine}
 use Rattle.angles.specs.declared.angles.Elevation.{Elevation}
 use Rattle.reflection.specs.declared.ground.Ground.{Ground}
@@ -30,10 +30,6 @@ y_of o e cb = o.wavenumber ⊠ (o.ss ⊟ o.d ⊠ (e.q ⊠ o.sg ⊞ e.t ⊠ o.cg 
 unfoldable pub z_of : Offset → Elevation → Float → Float
 z_of o e y = y ⊟ num 2 1 ⊠ o.htwave ⊠ e.q
 
--- an angle's sine and cosine
-unfoldable pub sine_cosine : Float → SineCosine
-sine_cosine x = record { sine = sine x; cosine = cosine x }
-
 -- h1v and h2 of ch and yh; v1 and v2 are the same of cv and yv
 unfoldable pub h1v_of : Float → SineCosine → SineCosine → SineCosine → Float
 h1v_of c yh y z = num 1 1 ⊞ y.cosine ⊟ c ⊠ (yh.cosine ⊠ (num 1 1 ⊞ z.cosine) ⊟ yh.sine ⊠ z.sine)
@@ -53,10 +49,10 @@ interlaced_of legs o e earth =
     let z = z_of o e y in
     let yh = earth.psih ⊟ num 2 1 ⊠ legs.hwave ⊠ e.q in
     let yv = earth.psiv ⊟ num 2 1 ⊠ legs.hwave ⊠ e.q in
-    let hk = hk_of earth.ch (sine_cosine yh) (sine_cosine y) (sine_cosine z) in
+    let hk = hk_of earth.ch (sine_cosine_of yh) (sine_cosine_of y) (sine_cosine_of z) in
     let brk = legs.cb ⊟ legs.srhi ⊠ e.t in
     let hrain = elfac2 ⊠ brk ⊠ brk ⊠ hk in
-    let vk = hk_of earth.cv (sine_cosine yv) (sine_cosine y) (sine_cosine z) in
+    let vk = hk_of earth.cv (sine_cosine_of yv) (sine_cosine_of y) (sine_cosine_of z) in
     let brv = legs.sb ⊠ legs.sb ⊠ e.r in
     let vrain = elfac2 ⊠ brv ⊠ vk in
     (hrain ⊞ vrain) ⊠ num 8 10

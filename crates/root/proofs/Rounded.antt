@@ -4,7 +4,8 @@ use mathlib.Core.Bool.{Bool, true, false, not, cond}
 use mathlib.Core.Logic.{◌≢◌}
 use Prim.Native.Nat.{ℕ, zero, suc, ◌+◌, ◌-◌, ◌*◌, ◌/◌, ◌%◌, ◌^◌, ◌≤◌, ◌<◌, compare, Ordering}
 use native.Mathlib.Omega.{arith}
-use native.Mathlib.Nat.{mul_assoc, mul_comm, mul_left_comm, mul_right_comm, mul-pos, mul-le-mul, mul-lt-mul_of_pos_right, le_refl, le_trans, le_of_eq, lt_of_lt_of_le, lt_of_le_of_lt, div-lt_iff_lt-mul, le-div_iff_mul-le, div-div-eq-div-mul, mul-div_cancel, mod-add-div}
+use native.Mathlib.Nat.{mul_assoc, mul_comm, mul_left_comm, mul_right_comm, mul-pos, mul-le-mul, mul-lt-mul_of_pos_right, mul-div_cancel, mod-add-div}
+use native.Mathlib.Nat.{le_refl, le_trans, le_of_eq, lt_of_lt_of_le, lt_of_le_of_lt, div-lt_iff_lt-mul, le-div_iff_mul-le, div-div-eq-div-mul}
 use lib.Dec.{T, T_not, eqb, eqb→eq}
 use lib.IntN.{ℤ}
 use lib.Pow.{pow_pos}
@@ -37,7 +38,9 @@ same a b c d f g h = go (compare a b) (compare c d) (cmp a b) (cmp c d)
     go Ordering.gt Ordering.gt x y = refl
 
 compare_scale : (a b c : ℕ) → 0 < c → compare (a * c) (b * c) ≡ compare a b
-compare_scale a b c C = sym (same a b (a * c) (b * c) (λ h. mul-lt-mul_of_pos_right h C) (λ e. ap (λ (x : ℕ). x * c) e) (λ h. mul-lt-mul_of_pos_right h C))
+compare_scale a b c C =
+    let eq : a ≡ b → a * c ≡ b * c = ap (λ (x : ℕ). x * c) in
+    sym (same a b (a * c) (b * c) (λ h. mul-lt-mul_of_pos_right h C) eq (λ h. mul-lt-mul_of_pos_right h C))
 
 square-lt : (a b : ℕ) → a < b → a * a < b * b
 square-lt a b h = lt_of_le_of_lt (mul-le-mul (le_refl a) (let z : a ≤ b = omega arith in z)) (mul-lt-mul_of_pos_right h (let z : 0 < b = omega arith in z))
@@ -124,10 +127,16 @@ module _ (x h l : ℕ) (H : 0 < h) (L : 0 < l) where
   d = 2 * c * l
 
   r_lo : s * c ≤ r
-  r_lo = let z : s * c < r + 1 = square_lt (s * c) (r + 1) (lt_of_le_of_lt (le_trans (le_of_eq (sq s c)) (mul-le-mul (isqrt_is x).low (le_refl (c * c)))) (isqrt_is n).high) in omega arith
+  r_lo =
+      let at_most = le_trans (le_of_eq (sq s c)) (mul-le-mul (isqrt_is x).low (le_refl (c * c))) in
+      let z : s * c < r + 1 = square_lt (s * c) (r + 1) (lt_of_le_of_lt at_most (isqrt_is n).high) in
+      omega arith
 
   r_hi : r < (s + 1) * c
-  r_hi = square_lt r ((s + 1) * c) (lt_of_le_of_lt (isqrt_is n).low (lt_of_lt_of_le (mul-lt-mul_of_pos_right (isqrt_is x).high (let z : 0 < c = omega arith in mul-pos z z)) (le_of_eq (sym (sq (s + 1) c)))))
+  r_hi =
+      let c_pos : 0 < c * c = let z : 0 < c = omega arith in mul-pos z z in
+      let below = lt_of_lt_of_le (mul-lt-mul_of_pos_right (isqrt_is x).high c_pos) (le_of_eq (sym (sq (s + 1) c))) in
+      square_lt r ((s + 1) * c) (lt_of_le_of_lt (isqrt_is n).low below)
 
   pub places : m / d ≡ s
   places =
@@ -171,12 +180,15 @@ twice_is n = let w = whole_part n in ap (twice n) (sym (isqrt_of n (root_below (
 
 root_of_units : (x : ℕ) → round binary32 false (root_twice (x * (2 ^ 2122 * 2 ^ 2122))) (2 ^ 2272) ≡ root_units x
 unfolding round
-root_of_units x = ap (λ (y : ℕ). round binary32 false y (2 ^ 2272)) (twice_is (x * (2 ^ 2122 * 2 ^ 2122))) ∙ rounded x (2 ^ 2121) (2 ^ 149) (pow_pos 2121) (pow_pos 149)
+root_of_units x =
+    ap (λ (y : ℕ). round binary32 false y (2 ^ 2272)) (twice_is (x * (2 ^ 2122 * 2 ^ 2122)))
+    ∙ rounded x (2 ^ 2121) (2 ^ 149) (pow_pos 2121) (pow_pos 149)
 
 quotient : (a d n p q : ℕ) → 0 < d → a * p ≡ n * d → a * (p * q) / d ≡ n * q
 quotient a d n p q D e = ap (λ (y : ℕ). y / d) (sym (mul_assoc a p q) ∙ ap (λ (y : ℕ). y * q) e ∙ mul_right_comm n d q) ∙ mul-div_cancel (n * q) D
 
-sqrt_units : (m : ℕ) (e : ℤ) → T (fits binary32 (fin false (suc m) e)) → sqrt binary32 (fin false (suc m) e) ≡ root_units (units_of (suc m) e * 2 ^ 149)
+sqrt_units : (m : ℕ) (e : ℤ) → T (fits binary32 (fin false (suc m) e))
+    → sqrt binary32 (fin false (suc m) e) ≡ root_units (units_of (suc m) e * 2 ^ 149)
 unfolding sqrt
 sqrt_units k e f =
     let n = units_of (suc k) e in

@@ -1,9 +1,9 @@
 use lib.Ieee.{round, of_bits}
-use Rattle.interlaced.specs.Interlaced.{z_of, sine_cosine, interlaced_of}
+use Rattle.interlaced.specs.Interlaced.{z_of, interlaced_of}
 use Rattle.interlaced.proofs.interlaced.interlaced_rain.Goals as goal
 
 pub returns : goal.returns
-unfolding z_of sine_cosine interlaced_of round of_bits
+unfolding z_of interlaced_of round of_bits
 returns c = rw (
   ← c.elfac-factor.ensures,
   ← c.y_of-y.ensures,
