@@ -3,8 +3,9 @@ use Prim.Native.Nat.{◌^◌}
 use lib.Dec.{lit<}
 use mir.Syntax.{w32, w64}
 use mir.Val.{to_z, of_z}
-use mir.ValLaws.{SFits, to_z-of_z}
+use mir.ValLaws.{to_z-of_z}
 use borrow.Author.Rules.{sfits_of}
+use Rattle.std.proofs.Common.{SFits}
 use Rattle.single.proofs.Magnitude.{in_i64}
 use Rattle.elementary.specs.Basic.{cut_toward}
 use Rattle.basic.proofs.Cutting.{cut_fits}
