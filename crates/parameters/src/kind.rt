@@ -21,6 +21,7 @@ pub enum Kind {
 impl From<i32> for Kind {
     ghost from_gives = { λ number kind. kind ≡ kind_of number };
 
+    #[tactic(auto, unfolding(crate::specs::Kind::kind_of, crate::specs::Params::is_type))]
     fn from(number: i32) -> Kind {
         match number {
             1 => Kind::Rhombic,

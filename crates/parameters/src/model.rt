@@ -19,6 +19,7 @@ pub enum Model {
 impl From<i32> for Model {
     ghost from_gives = { λ number model. model ≡ model_of number };
 
+    #[tactic(auto, unfolding(crate::specs::Model::model_of))]
     fn from(number: i32) -> Model {
         match number {
             0 => Model::Compatible,
@@ -28,6 +29,7 @@ impl From<i32> for Model {
 }
 
 // How near to the vertical, in radians, the curtain takes the floor.
+#[tactic(auto, unfolding(crate::specs::Model::curtain_elevation_threshold, crate::proofs::Literals::round, crate::proofs::Literals::of_bits))]
 pub fn curtain_elevation_threshold(model: Model) -> f32
     ensures { result ≡ curtain_elevation_threshold model }
 {
