@@ -18,6 +18,7 @@ pub struct Deck {
     pub refused: u32,
 }
 
+// Section 8 says these zeros: by a derived `Default` they would no longer stand here.
 pub fn fresh() -> Deck
     ensures { result ≡ deck_of fresh }
 {
@@ -35,6 +36,7 @@ fn is_full(deck: Deck) -> bool
 }
 
 // Refusals 10, 9 and 7: what is refused of any entry.
+#[tactic(auto, unfolding(crate::specs::DeckState::deck_refusal, limits::specs::Refusals::first_refusal), using(refusals::proofs::Refusals::is_judged))]
 pub fn deck_refusal(deck: Deck, table: &[f32]) -> Result<(), Refusal>
     ensures { IsJudged (deck_refusal (state_of deck) table.now) result }
 {
@@ -51,6 +53,7 @@ pub fn deck_refusal(deck: Deck, table: &[f32]) -> Result<(), Refusal>
 }
 
 // 10 raises no count, and a full deck's counts stay.
+#[tactic(auto, unfolding(crate::specs::DeckState::refused_within, independence::specs::Deck::refused_deck))]
 pub fn refused_deck(deck: Deck, refusal: Refusal) -> Deck
     ensures { result ≡ deck_of (refused_within (state_of deck) (number_of refusal)) }
 {
