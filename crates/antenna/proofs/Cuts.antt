@@ -7,6 +7,9 @@ use native.Mathlib.Omega.{arith}
 use lib.Dec.{T, lit≤}
 use lib.IntN.{ℤ, pos, neg_ℤ}
 use lib.Ieee.{Float, nan, inf, fin, binary32, up, down, lt, round, of_bits, to_signed, in_float}
+use lib.Ieee.Casts.{to_signed_in}
+use mir.Syntax.{w32}
+use Rattle.std.proofs.Common.{SFits}
 use Rattle.single.specs.Single.{◌⊞◌, ◌⊠◌, num}
 use Rattle.single.proofs.Magnitude.{Mag, mul_mag, add_mag}
 use Rattle.elementary.specs.Basic.{cut_toward}
@@ -34,6 +37,10 @@ pub cut-kept : (x : Float) → outside x ≡ false → T (in_float binary32 (cut
 cut-kept x h =
     let m : Mag (2 ^ 21) x = within_mag x h in
     subst (λ (z : ℤ). T (in_float binary32 z)) (sym (cut_parts x m)) (signed_float (lt x (of_bits binary32 0)) (whole_part x) (whole_below x (2 ^ 21) m))
+
+pub cut_fits : (x : Float) → SFits w32 (cut_toward x)
+unfolding cut_toward
+cut_fits x = record { sfits = to_signed_in 31 x }
 
 either_end : (w a b : ℕ) → w ≤ a → w ≤ b → min w a ≡ min w b
 either_end w a b h g = omega arith

@@ -1,3 +1,2 @@
 pub mod Absolute
 pub mod WholePart
-pub mod Cutting

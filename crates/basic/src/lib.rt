@@ -5,12 +5,11 @@ ghost use Rattle.std.specs.Prelude.{◌≡◌};
 ghost use Rattle.single.specs.Single.{is_negative};
 ghost use Rattle.basic.specs.Basic.{absolute, max_small, cut_toward, square, fourth};
 
-// Below zero and at either zero the difference is exact and clears the sign. The library's `abs`
-// makes two tests of it.
+#[tactic(auto, using(crate::proofs::Absolute::without_sign))]
 pub fn abs(x: f32) -> f32
     ensures { result ≡ absolute x }
 {
-    if x <= 0.0 { 0.0 - x } else { x }
+    x.abs()
 }
 
 // The sign bit, of a zero too; false for NaN.
@@ -20,28 +19,19 @@ pub fn is_negative(x: f32) -> bool
     !x.is_nan() && x.is_sign_negative()
 }
 
-// `max(0.00001)`. The library's `max` takes half as long again.
+// `max(0.00001)`.
 pub fn max_small(x: f32) -> f32
     ensures { result ≡ max_small x }
 {
-    if x > 0.00001 { x } else { 0.00001 }
+    x.max(0.00001)
 }
 
-// `as i32`. The library's `saturating_f32_to_i32` goes through f64, and each lookup cuts three.
+// `as i32`.
+#[tactic(auto, unfolding(crate::specs::Basic::cut_toward))]
 pub fn cut(x: f32) -> i32
     ensures { result ≡ cut_toward x }
 {
-    if x >= -2147483648.0 {
-        if x < 2147483648.0 {
-            std::num::truncating_f32_to_i64(x) as i32
-        } else {
-            i32::MAX
-        }
-    } else if x < 0.0 {
-        i32::MIN
-    } else {
-        0
-    }
+    std::num::saturating_f32_to_i32(x)
 }
 
 pub fn powi2(y: f32) -> f32

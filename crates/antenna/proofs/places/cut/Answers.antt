@@ -8,8 +8,7 @@ use borrow.Author.Rules.{sfits_of}
 use Rattle.std.proofs.Common.{SFits}
 use Rattle.single.proofs.Magnitude.{in_i64}
 use Rattle.elementary.specs.Basic.{cut_toward}
-use Rattle.basic.proofs.Cutting.{cut_fits}
-use Rattle.antenna.proofs.Cuts.{cut_small}
+use Rattle.antenna.proofs.Cuts.{cut_fits, cut_small}
 use Rattle.antenna.proofs.places.cut.Goals as goal
 use Rattle.antenna.proofs.places.cut.Goals.{After-truncating_f32_to_i64}
 
