@@ -38,9 +38,7 @@ pub fn cisi(x: f32) -> Result<Integrals, Refusal>
     ensures { (result ≡ cisi_of x) × (outcome_number result ≡ cisi_number x) × (outcome_values zeros result ≡ cisi_values x) }
 {
     if 0.0 <= x && x <= 1048576.0 {
-        let Some(computed) = integrals_of(x) else {
-            return Err(Refusal::Unsettled);
-        };
+        let computed = integrals_of(x).ok_or(Refusal::Unsettled)?;
         return Ok(computed.value);
     }
     Err(Refusal::Argument)
