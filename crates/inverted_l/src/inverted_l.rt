@@ -7,7 +7,7 @@ ghost use Rattle.inverted_l.specs.InvertedL.{eff8_of, inverted_l_row, g2_of, bpr
 
 use angles::{Azimuth, Elevation};
 use integrals::Settled;
-use reflection::Ground;
+use reflection::{Ground, with_image};
 use resistance::resistance_of;
 
 // What a row's cells take: the phases of the leg, twice over, and of the height; cosine and sine of
@@ -66,9 +66,7 @@ fn g2(row: InvertedL, azimuth: Azimuth, elevation: Elevation, earth: Ground) -> 
     if sphip == 0.0 {
         return 0.0;
     }
-    let ch = earth.ch;
-    // Not reflection's with_image: the Rust adds in this order here.
-    let hk = 1.0 + ch * ch - 2.0 * ch * elementary::cos(earth.psih - 2.0 * row.hwave * elevation.q);
+    let hk = with_image(earth.ch, earth.psih, 2.0 * row.hwave, elevation.q);
     let both = elementary::sin_cos(row.fac2 * u);
     let c = 1.0 - both.cosine * row.cfac2 - u * both.sine - 0.5 * row.sfac2 * row.sfac2 * sphip;
     hk * elementary::powi2(2.0 * c * azimuth.cb / sphip)
@@ -98,8 +96,10 @@ fn f1(row: InvertedL, elevation: Elevation, earth: Ground) -> f32
     let b = q * row.sfac2 * both.cosine + row.cfac2 * both.sine - q * row.ssum;
     let bprim = bprim_of(a, b);
     let cv = earth.cv;
-    let phase = elementary::cos(earth.psiv - 2.0 * bprim);
-    (a * a + b * b) * (1.0 - 2.0 * cv * phase + cv * cv) / (t * t)
+    let turned = elementary::cos(earth.psiv - 2.0 * bprim);
+    // Not reflection's image_power: the Rust rounds in this order here.
+    let power = 1.0 - 2.0 * cv * turned + cv * cv;
+    (a * a + b * b) * power / (t * t)
 }
 
 pub fn inverted_l_rain(row: InvertedL, azimuth: Azimuth, elevation: Elevation, earth: Ground) -> f32

@@ -1,11 +1,18 @@
 // A wave and its image in the ground.
 ghost use Rattle.std.specs.Prelude.{◌≡◌};
-ghost use Rattle.reflection.specs.Ground.{with_image};
+ghost use Rattle.reflection.specs.Ground.{image_power, with_image};
 
-// The power of both: the ground reflects the wave with magnitude c and phase psi, and the image
-// lies hwave2, twice the height's phase, below it.
+// The power of both: the ground gives the image c of the wave's amplitude, and this phase.
+pub fn image_power(c: f32, phase: f32) -> f32
+    ensures { result ≡ image_power c phase }
+{
+    c * c + 1.0 - 2.0 * c * elementary::cos(phase)
+}
+
+// Of an image that lies hwave2, twice the height's phase, below the wave; psi is the reflection's.
+#[tactic(auto, unfolding(crate::specs::Ground::with_image))]
 pub fn with_image(c: f32, psi: f32, hwave2: f32, q: f32) -> f32
     ensures { result ≡ with_image c psi hwave2 q }
 {
-    c * c + 1.0 - 2.0 * c * elementary::cos(psi - hwave2 * q)
+    image_power(c, psi - hwave2 * q)
 }

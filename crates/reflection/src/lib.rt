@@ -5,5 +5,5 @@ mod image;
 mod soil;
 
 pub use ground::{Ground, reflect};
-pub use image::with_image;
+pub use image::{image_power, with_image};
 pub use soil::{Soil, soil_of};

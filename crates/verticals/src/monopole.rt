@@ -10,7 +10,7 @@ ghost use Rattle.integrals.specs.Settled.{unsettled_number, settled_value};
 use angles::Elevation;
 use integrals::Settled;
 use lengths::{Length, MONOPOLE_TURN, phase_in_waves};
-use reflection::{Ground, with_image};
+use reflection::{Ground, image_power};
 use resistance::resistance_of;
 
 // The radiation resistance at 0.2 wavelengths.
@@ -71,5 +71,5 @@ pub fn monopole_rain(row: Monopole, elevation: Elevation, earth: Ground) -> f32
     let denom = not_zero(top);
     let bprim = elementary::atan((both.sine - q * row.shwave) / denom);
     let factor = elementary::powi2(top / (elevation.t * elementary::cos(bprim)));
-    30.0 * (factor * with_image(earth.cv, earth.psiv, 2.0, bprim)) / row.ra
+    30.0 * (factor * image_power(earth.cv, earth.psiv - 2.0 * bprim)) / row.ra
 }

@@ -8,8 +8,10 @@ use Rattle.dipoles.proofs.row.dipole_row.Goals as goal
 
 pub returns-in_err-pair : goal.returns-in_err-pair
 unfolding dipole_row round of_bits
-returns-in_err-pair c =
-    settled_answers zero_dipole _ _ (dipole_number_lem c.args.fac c.args.hwave) _ (rw (← c.integral_pair.ensures.0, c.in_err-pair.was) c.from_residual.ensures)
+returns-in_err-pair c = settled_answers zero_dipole _ _ (dipole_number_lem c.args.fac c.args.hwave) _ (rw (
+  ← c.integral_pair.ensures.0,
+  c.in_err-pair.was,
+) c.from_residual.ensures)
 
 pub returns : goal.returns
 unfolding dipole_row round of_bits

@@ -13,5 +13,5 @@ returns c = rw (
   ← c.sin_cos-both.ensures.0,
   ← c.sin_cos-both.ensures.1,
   ← c.bprim_of-bprim.ensures,
-  ← c.cos-phase.ensures,
+  ← c.cos-turned.ensures,
 )

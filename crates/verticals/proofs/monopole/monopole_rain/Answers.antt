@@ -1,10 +1,9 @@
 use lib.Ieee.{round, of_bits}
-use Rattle.reflection.specs.Ground.{with_image}
 use Rattle.verticals.specs.Monopole.{monopole_rain}
 use Rattle.verticals.proofs.monopole.monopole_rain.Goals as goal
 
 pub returns : goal.returns
-unfolding monopole_rain with_image round of_bits
+unfolding monopole_rain round of_bits
 returns c = rw (
   ← c.sin_cos-both.ensures.0,
   ← c.sin_cos-both.ensures.1,
@@ -12,5 +11,5 @@ returns c = rw (
   ← c.atan-bprim.ensures,
   ← c.cos.ensures,
   ← c.powi2-factor.ensures,
-  ← c.with_image.ensures,
+  ← c.image_power.ensures,
 )
