@@ -36,7 +36,8 @@ fn turns_argument(x: f32) -> f32
     if x < 0.0 { t - 0.5 } else { t + 0.5 }
 }
 
-// The whole part of |t|, by its digits and its exponent's field.
+// The whole part of |t|, by its digits and its exponent's field: with a cast to i64 the sine takes a
+// third longer, along a row half as long again.
 fn whole_part(t: f32) -> u32
     requires { Mag (2 ^ 21) t }
     ensures { (result ≡ whole_part t) × (result ≤ 2 ^ 21) }
