@@ -21,43 +21,35 @@ pub struct Card {
     pub model: Model,
 }
 
+#[tactic(auto, unfolding(crate::specs::Card::card_of))]
 pub fn read_card(fields: Fields) -> Card
     ensures { result ≡ card_of fields }
 {
-    let Fields {
-        kop,
-        first,
-        last,
-        toaz,
-        slots,
-        model,
-    } = fields;
-    let kind = Kind::from(kop);
-    let params = parameters::ioninit(kop, &slots);
+    let kind = Kind::from(fields.kop);
+    let params = parameters::ioninit(fields.kop, &fields.slots);
     Card {
         kind,
-        first,
-        last,
-        toaz,
+        first: fields.first,
+        last: fields.last,
+        toaz: fields.toaz,
         params,
         leg: lengths::read_length(params.anl),
         height: lengths::read_height(kind, params.anh),
-        model,
+        model: fields.model,
     }
 }
 
 // What holds for all rows of the card, the azimuth's sine and cosine too.
+#[tactic(auto, unfolding(crate::specs::Card::antenna_for))]
 pub fn card_antenna(card: Card) -> Antenna
     ensures { result ≡ antenna_for card }
 {
-    let Card {
-        kind,
-        toaz,
-        params,
-        leg,
-        height,
-        model,
-        ..
-    } = card;
-    antennas::antenna_with(kind, toaz, params, leg, height, model)
+    antennas::antenna_with(
+        card.kind,
+        card.toaz,
+        card.params,
+        card.leg,
+        card.height,
+        card.model,
+    )
 }

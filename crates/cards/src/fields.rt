@@ -21,6 +21,7 @@ pub struct Fields {
     pub model: Model,
 }
 
+#[tactic(auto, unfolding(crate::specs::Fields::whole_outside))]
 fn whole_outside(n: i32) -> bool
     ensures { result ≡ whole_outside n }
 {
@@ -28,34 +29,22 @@ fn whole_outside(n: i32) -> bool
 }
 
 // All that is handed in, used by the type or not.
+#[tactic(auto, unfolding(crate::specs::Fields::fields_outside))]
 fn fields_outside(fields: Fields) -> bool
     ensures { result ≡ fields_outside fields }
 {
-    let Fields {
-        first,
-        last,
-        toaz,
-        slots,
-        ..
-    } = fields;
-    limits::any_outside(&[toaz])
-        || limits::any_outside(&slots)
-        || whole_outside(first)
-        || whole_outside(last)
+    limits::any_outside(&[fields.toaz])
+        || limits::any_outside(&fields.slots)
+        || whole_outside(fields.first)
+        || whole_outside(fields.last)
 }
 
+#[tactic(auto, unfolding(crate::specs::Fields::fields_refusal))]
 pub fn fields_refusal(fields: Fields) -> Result<(), Refusal>
     ensures { IsJudged (fields_refusal fields) result }
 {
     let outside = fields_outside(fields);
-    let Fields {
-        kop,
-        first,
-        last,
-        slots,
-        ..
-    } = fields;
-    let params = parameters::ioninit(kop, &slots);
-    let mhz_outside = !table::is_range(first, last);
-    limits::input_refusal(kop, outside, params.asig, mhz_outside, params.and)
+    let params = parameters::ioninit(fields.kop, &fields.slots);
+    let mhz_outside = !table::is_range(fields.first, fields.last);
+    limits::input_refusal(fields.kop, outside, params.asig, mhz_outside, params.and)
 }

@@ -36,7 +36,7 @@ fn is_full(deck: Deck) -> bool
 }
 
 // Refusals 10, 9 and 7: what is refused of any entry.
-#[tactic(auto, unfolding(crate::specs::DeckState::deck_refusal, limits::specs::Refusals::first_refusal), using(refusals::proofs::Refusals::is_judged))]
+#[tactic(auto, unfolding(crate::specs::DeckState::deck_refusal, limits::specs::Refusals::first_refusal))]
 pub fn deck_refusal(deck: Deck, table: &[f32]) -> Result<(), Refusal>
     ensures { IsJudged (deck_refusal (state_of deck) table.now) result }
 {
