@@ -1,9 +1,13 @@
 -- Laws of the integer field: its loops' invariants, its length, when it is stars. Assumes nothing.
-use Rattle.std.proofs.Common.{◌≡◌, ℕ, zero, suc, ◌+◌, ◌-◌, ◌*◌, ◌/◌, ◌%◌, ◌^◌, ◌<◌, ◌≤◌, Bool, true, false, cond, ltb, leb, List, [], ◌∷◌, ◌++◌, length, take, drop, set, replicate, ℤ, pos, negsuc, nat_abs, Option, Some, None, sym, refl, ap, ◌∙◌, subst, zero-lt-suc, le-div_iff_mul-le, sub-one, arith, length-append, length-drop, length-set, length-take-le, le-ltb, lt-ltb, le-leb, leb-true}
+use Rattle.std.proofs.Common.{◌≡◌, ℕ, zero, suc, ◌+◌, ◌-◌, ◌*◌, ◌/◌, ◌%◌, ◌^◌, ◌<◌, ◌≤◌, Bool, true, false, cond, ltb, leb}
+use Rattle.std.proofs.Common.{List, [], ◌∷◌, ◌++◌, length, take, drop, set, replicate, ℤ, pos, negsuc, nat_abs, Option, Some}
+use Rattle.std.proofs.Common.{None, sym, refl, ap, ◌∙◌, subst, zero-lt-suc, le-div_iff_mul-le, sub-one, arith, length-append}
+use Rattle.std.proofs.Common.{length-drop, length-set, length-take-le, le-ltb, lt-ltb, le-leb, leb-true}
 use native.Mathlib.Nat.{one-le-pow, pow-succ'}
 use borrow.Author.Tests.{lt-leb}
 use lib.Seq.{drop-length}
 use lib.ListN.{length-replicate}
+use Rattle.std.proofs.lemmas.List.{drop-set}
 use Rattle.output.specs.Placed.{Stands, Longer, Placed}
 use Rattle.output.specs.Field.{spelled, decimal, text, justified, integer_field}
 
@@ -38,16 +42,10 @@ starts n d =
     record { long = refl; low = omega arith; left = omega arith; end = rw (e, drop-length d) }
 
 stored : (t : List ℕ) (i b : ℕ) → 0 < i → i ≤ length t → drop (i - 1) (set t (i - 1) b) ≡ b ∷ drop i t
-stored t zero b p h = absurd (let w : ◌≡◌ {A = ℕ} 0 1 = omega arith in omega arith)
-stored [] (suc i) b p h = absurd (let w : ◌≡◌ {A = ℕ} 0 1 = omega arith in omega arith)
-stored (x ∷ t) (suc i) b p h = rw (sub-one (suc i)) (go i (x ∷ t) h)
-  where
-    go : (i : ℕ) (t : List ℕ) → suc i ≤ length t → drop i (set t i b) ≡ b ∷ drop (suc i) t
-    go i [] h = absurd (let w : ◌≡◌ {A = ℕ} 0 1 = omega arith in omega arith)
-    go zero (x ∷ t) h = refl
-    go (suc i) (x ∷ t) h = go i t (omega arith)
+stored t i b p h = let e : i - 1 + 1 ≡ i = omega arith in drop-set t (i - 1) b (omega arith) ∙ ap (λ (k : ℕ). b ∷ drop k t) e
 
-pub more : (n : ℕ) (d out : List ℕ) (rest i : ℕ) → Spelling n d out rest i → 10 ≤ rest → 0 < i → Spelling n d (set out (i - 1) (48 + rest % 10)) (rest / 10) (i - 1)
+pub more : (n : ℕ) (d out : List ℕ) (rest i : ℕ) → Spelling n d out rest i → 10 ≤ rest → 0 < i
+    → Spelling n d (set out (i - 1) (48 + rest % 10)) (rest / 10) (i - 1)
 more n d out rest i s h p =
     let a : length out ≡ length d = s.long in
     let l : i ≤ length d = s.low in
@@ -113,7 +111,8 @@ module _ (v : ℤ) (n i : ℕ) (d out x : List ℕ) (e : n ≡ nat_abs v) where
       let l : length out ≡ length d = s.long in
       let m : i ≤ length d = s.low in
       let k : i ≤ length out = omega arith in
-      spaced v d (drop i out) x i (ap text p ∙ ap decimal (sym e) ∙ sym s.end) (omega (arith, length-drop i out)) (f ∙ ap (λ (y : ℕ). replicate y 32) (length-take-le i out k))
+      let here : text v ≡ drop i out = ap text p ∙ ap decimal (sym e) ∙ sym s.end in
+      spaced v d (drop i out) x i here (omega (arith, length-drop i out)) (f ∙ ap (λ (y : ℕ). replicate y 32) (length-take-le i out k))
 
   module _ (p : v ≡ negsuc (nat_abs v - 1)) (s : Stands n d out i) where
     minus_text : text v ≡ 45 ∷ drop i out
@@ -125,15 +124,21 @@ module _ (v : ℤ) (n i : ℕ) (d out x : List ℕ) (e : n ≡ nat_abs v) where
         let q : length (drop i out) ≡ length out = rw z refl in
         starred v d x (length out) s.long (omega (arith, s.long, ap length minus_text)) f
 
-    pub minus : (i ≡ 0 → ⊥) → x ≡ replicate (length (take (i - 1) (set out (i - 1) 45))) 32 → x ++ drop (i - 1) (set out (i - 1) 45) ≡ integer_field v (length d)
+    pub minus : (i ≡ 0 → ⊥) → x ≡ replicate (length (take (i - 1) (set out (i - 1) 45))) 32
+        → x ++ drop (i - 1) (set out (i - 1) 45) ≡ integer_field v (length d)
     minus z f =
         let l : length out ≡ length d = s.long in
         let m : i ≤ length d = s.low in
         let o : 0 < i = omega arith in
         let r : drop (i - 1) (set out (i - 1) 45) ≡ 45 ∷ drop i out = stored out i 45 o (omega arith) in
         let b : i - 1 ≤ length (set out (i - 1) 45) = omega (arith, length-set out (i - 1) 45) in
+        let front = length-take-le (i - 1) (set out (i - 1) 45) b in
         spaced v d (drop (i - 1) (set out (i - 1) 45)) x (i - 1) (minus_text ∙ sym r)
-        (omega (arith, length-drop (i - 1) (set out (i - 1) 45), length-set out (i - 1) 45)) (f ∙ ap (λ (y : ℕ). replicate y 32) (length-take-le (i - 1) (set out (i - 1) 45) b))
+        (omega (arith, length-drop (i - 1) (set out (i - 1) 45), length-set out (i - 1) 45)) (f ∙ ap (λ (y : ℕ). replicate y 32) front)
+
+pub ruleset digits_written = (starts, ends, full)
+
+pub ruleset field_written = (all_stars, plus, no_room, minus, at, too_long)
 
 -- a field has its width
 pub justified_length : (t : List ℕ) (w : ℕ) → length (justified t w) ≡ w
@@ -141,7 +146,9 @@ unfolding justified
 justified_length t w = go (leb (length t) w) refl
   where
     go : (b : Bool) → leb (length t) w ≡ b → length (cond b (replicate (w - length t) 32 ++ t) (replicate w 42)) ≡ w
-    go true e = let h : length t ≤ w = leb-true (length t) w e in omega (arith, length-append (replicate (w - length t) 32) t, length-replicate {A = ℕ} (w - length t) 32)
+    go true e =
+        let h : length t ≤ w = leb-true (length t) w e in
+        omega (arith, length-append (replicate (w - length t) 32) t, length-replicate {A = ℕ} (w - length t) 32)
     go false e = length-replicate w 42
 
 pub field_length : (v : ℤ) (w : ℕ) → length (integer_field v w) ≡ w

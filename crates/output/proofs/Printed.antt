@@ -1,5 +1,7 @@
 -- Laws of the hundredths' field. Assumes nothing.
-use Rattle.std.proofs.Common.{◌≡◌, ℕ, ◌+◌, ◌-◌, ◌*◌, ◌^◌, ◌<◌, ◌≤◌, Bool, true, false, cond, ltb, List, [], length, take, drop, replicate, ℤ, nat_abs, sym, refl, ap, ◌∙◌, zero-lt-suc, div-lt_iff_lt-mul, le-div_iff_mul-le, arith, w64, SFits, to_z, of_z, ltb-false, ltb-true, le-leb, length-drop}
+use Rattle.std.proofs.Common.{◌≡◌, ℕ, ◌+◌, ◌-◌, ◌*◌, ◌^◌, ◌<◌, ◌≤◌, Bool, true, false, cond, ltb, List, [], length, take}
+use Rattle.std.proofs.Common.{drop, replicate, ℤ, nat_abs, sym, refl, ap, ◌∙◌, zero-lt-suc, div-lt_iff_lt-mul}
+use Rattle.std.proofs.Common.{le-div_iff_mul-le, arith, w64, SFits, to_z, of_z, ltb-false, ltb-true, le-leb, length-drop}
 use native.Mathlib.Nat.{pow-le-pow_right}
 use borrow.Author.Tests.{lt-leb}
 use lib.ListN.{length-replicate, drop_of_length-le}
@@ -29,9 +31,13 @@ nan_long w l y h e f =
     let back : drop (length l - (w - 3)) (drop (w - 3) l) ≡ [] = drop_of_length-le (drop (w - 3) l) (omega (arith, length-drop (w - 3) l)) in
     rw (le-leb 3 w h, back, front, f) refl
 
+pub ruleset nan_printed = (nan_short, nan_long)
+
 -- ---- a whole number of hundredths fits an i64
 half_up_below : (a b : ℕ) → 0 < b → a < 2 ^ 56 * b → half_up (100 * a) b ≤ 100 * 2 ^ 56
-half_up_below a b B h = let z : half_up (100 * a) b < 100 * 2 ^ 56 + 1 = (div-lt_iff_lt-mul (let y : 0 < 2 * b = omega arith in y)).1 (omega arith) in omega arith
+half_up_below a b B h =
+    let z : half_up (100 * a) b < 100 * 2 ^ 56 + 1 = (div-lt_iff_lt-mul (let y : 0 < 2 * b = omega arith in y)).1 (omega arith) in
+    omega arith
 
 never : (z : ℤ) → Over ≡ Whole z → ⊥
 never z e = let w : ◌≡◌ {A = ℕ} 0 1 = cc in omega arith
@@ -45,7 +51,8 @@ whole_bound nan z e = absurd (let w : ◌≡◌ {A = ℕ} 0 1 = cc in omega arit
 whole_bound (inf s) z e = absurd (never z e)
 whole_bound (fin s m e) z h = go (ltb (m * up e) (2 ^ 56 * down e)) refl h
   where
-    go : (t : Bool) → ltb (m * up e) (2 ^ 56 * down e) ≡ t → cond t (Whole (signed s (half_up (100 * (m * up e)) (down e)))) Over ≡ Whole z → nat_abs z ≤ 100 * 2 ^ 56
+    go : (t : Bool) → ltb (m * up e) (2 ^ 56 * down e) ≡ t
+        → cond t (Whole (signed s (half_up (100 * (m * up e)) (down e)))) Over ≡ Whole z → nat_abs z ≤ 100 * 2 ^ 56
     go false t h = absurd (never z h)
     go true t h =
         let b = half_up_below (m * up e) (down e) (down_pos e) (ltb-true (m * up e) (2 ^ 56 * down e) t) in
@@ -55,7 +62,8 @@ pub whole_fits : (x : Float) (z : ℤ) → hundredths_of x ≡ Whole z → SFits
 whole_fits x z h = within w64 z (let b = whole_bound x z h in omega arith)
 
 -- ---- the three cases
-pub prints_whole : (x : Float) (r : Hundredths) (z : ℤ) (w : ℕ) (l : List ℕ) → r ≡ hundredths_of x → r ≡ Whole z → l ≡ integer_field (to_z w64 (of_z w64 z)) w → l ≡ hundredths_field x w
+pub prints_whole : (x : Float) (r : Hundredths) (z : ℤ) (w : ℕ) (l : List ℕ) → r ≡ hundredths_of x → r ≡ Whole z
+    → l ≡ integer_field (to_z w64 (of_z w64 z)) w → l ≡ hundredths_field x w
 unfolding hundredths_field printed
 prints_whole x r z w l e f g =
     let h : hundredths_of x ≡ Whole z = sym e ∙ f in
@@ -69,6 +77,8 @@ pub prints_nan : (x : Float) (r : Hundredths) (w : ℕ) (l : List ℕ) → r ≡
 unfolding hundredths_field printed
 prints_nan x r w l e f g = let h : hundredths_of x ≡ NotANumber = sym e ∙ f in rw h g
 
+pub ruleset cases_printed = (prints_whole, prints_over, prints_nan)
+
 -- ---- in 18 columns or fewer the limit 2 ^ 56 does not show: the field is that of the whole number, however large
 half_up_above : (a b : ℕ) → 0 < b → 2 ^ 56 * b ≤ a → 100 * 2 ^ 56 ≤ half_up (100 * a) b
 half_up_above a b B h = (le-div_iff_mul-le (let y : 0 < 2 * b = omega arith in y)).1 (omega arith)
@@ -77,7 +87,8 @@ pub exact_in_18 : (s : Bool) (m : ℕ) (e : ℤ) (w : ℕ) → w ≤ 18 → hund
 unfolding hundredths_field printed hundredths_of
 exact_in_18 s m e w h = go (ltb (m * up e) (2 ^ 56 * down e)) refl
   where
-    go : (t : Bool) → ltb (m * up e) (2 ^ 56 * down e) ≡ t → printed (cond t (Whole (signed s (hundredfold m e))) Over) w ≡ integer_field (signed s (hundredfold m e)) w
+    go : (t : Bool) → ltb (m * up e) (2 ^ 56 * down e) ≡ t
+        → printed (cond t (Whole (signed s (hundredfold m e))) Over) w ≡ integer_field (signed s (hundredfold m e)) w
     go true t = refl
     go false t =
         let b = half_up_above (m * up e) (down e) (down_pos e) (ltb-false (m * up e) (2 ^ 56 * down e) t) in

@@ -1,4 +1,5 @@
--- Document 01 section 10, the integer field `i`: "the width of `i` is the length of the slice, all of which is written, with stars when the number is too long". Definitions only.
+-- Document 01 section 10, the integer field `i`: "the width of `i` is the length of the slice, all of
+-- which is written, with stars when the number is too long". Definitions only.
 use Rattle.std.specs.Prelude.{ℕ, zero, suc, ◌+◌, ◌-◌, ◌/◌, ◌%◌, Bool, true, false, cond, List, [], ◌∷◌, ◌++◌, length, replicate, ℤ, pos, negsuc, nat_le, nat_lt}
 
 -- The digits of n, then the text t. The flag says whether n is below 10; k is no less than n, so that it never runs out before the digits do

@@ -15,7 +15,8 @@ half_up a b = (2 * a + b) / (2 * b)
 abbrev pub hundredfold : ℕ → ℤ → ℕ
 hundredfold m e = half_up (100 * (m * up e)) (down e)
 
--- the sign is put on after the rounding, so that halves go away from zero. Over: an infinity, or from 2 ^ 56 on in magnitude, where the hundredths have 19 digits or more and may not fit an i64
+-- the sign is put on after the rounding, so that halves go away from zero.
+-- Over: an infinity, or from 2 ^ 56 on in magnitude, where the hundredths have 19 digits or more and may not fit an i64
 unfoldable pub hundredths_of : Float → Hundredths
 hundredths_of nan = NotANumber
 hundredths_of (inf s) = Over

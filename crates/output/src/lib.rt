@@ -4,4 +4,4 @@ mod rounding;
 mod writing;
 
 pub use rounding::{Hundredths, to_hundredths};
-pub use writing::{hundredths_field, i};
+pub use writing::{hundredths_columns, hundredths_field, i, integer_columns};

@@ -1,7 +1,8 @@
 // Hundredths of an f32, rounded from its exact value.
-ghost use Rattle.std.specs.Prelude.{◌≡◌, ◌*◌, ◌^◌, ◌≤◌, true, from_bits};
+ghost use Rattle.std.specs.Prelude.{◌≡◌, ◌*◌, ◌^◌, ◌≤◌, true, false, from_bits};
 ghost use Rattle.std.specs.Float.{binary32};
 ghost use Rattle.std.specs.Float.Ieee.{lt};
+ghost use Rattle.single.specs.Single.{is_negative};
 ghost use Rattle.output.specs.Hundredths.{hundredths_of, size_of};
 
 // Three cases, so no Option.
@@ -14,9 +15,10 @@ pub enum Hundredths {
 }
 
 // 200 * x is exact in f64; its whole part counts the halves in 100 * x.
-fn positive(x: f32) -> u64
-    requires x_value { lt (from_bits binary32 0) x ≡ true }
-    requires binary32_value { lt x (from_bits binary32 0x5b800000) ≡ true }
+#[tactic(auto, using(crate::proofs::Exact::counted))]
+fn rounded(x: f32) -> u64
+    requires sign { is_negative x ≡ false }
+    requires below { lt x (from_bits binary32 0x5b800000) ≡ true }
     ensures { (result ≡ size_of x) × (result ≤ 100 * 2 ^ 56) }
 {
     let y = x as f64 * 200.0;
@@ -24,23 +26,18 @@ fn positive(x: f32) -> u64
     (halves + 1) / 2
 }
 
+// The sign is put on after the rounding, so that halves go away from zero.
+#[tactic(auto, using(crate::proofs::Answers::tests))]
 pub fn to_hundredths(x: f32) -> Hundredths
     ensures { result ≡ hundredths_of x }
 {
-    if x > 0.0 {
-        if x < 72057594037927936.0 {
-            return Hundredths::Whole(positive(x) as i64);
-        }
-        return Hundredths::Over;
+    if x.is_nan() {
+        return Hundredths::NotANumber;
     }
-    if x < 0.0 {
-        if x > -72057594037927936.0 {
-            return Hundredths::Whole(0 - positive(-x) as i64);
-        }
-        return Hundredths::Over;
+    let magnitude = x.abs();
+    if magnitude < 72057594037927936.0 {
+        let n = rounded(magnitude) as i64;
+        return Hundredths::Whole(if x.is_sign_negative() { -n } else { n });
     }
-    if x == 0.0 {
-        return Hundredths::Whole(0);
-    }
-    Hundredths::NotANumber
+    Hundredths::Over
 }

@@ -7,6 +7,7 @@ ghost use Rattle.output.specs.Placed.{Placed};
 use crate::rounding::{Hundredths, to_hundredths};
 
 // Writes the digits of n at the end of out, and answers where they begin, if they fit.
+#[tactic(auto, using(crate::proofs::Field::digits_written))]
 fn digits(n: u64, out: &mut [u8]) -> Option<usize>
     ensures { Placed n out.old out.new result }
 {
@@ -23,6 +24,7 @@ fn digits(n: u64, out: &mut [u8]) -> Option<usize>
 }
 
 // The integer field `i`: v in decimal in the whole of out.
+#[tactic(auto, using(crate::proofs::Field::field_written))]
 pub fn i(v: i64, out: &mut [u8])
     ensures { out.new ≡ integer_field v (length out.old) }
 {
@@ -44,6 +46,7 @@ pub fn i(v: i64, out: &mut [u8])
 }
 
 // The three letters of a NaN at the end of out.
+#[tactic(auto, using(crate::proofs::Printed::nan_printed))]
 fn not_a_number(out: &mut [u8])
     ensures { out.new ≡ justified nan_text (length out.old) }
 {
@@ -57,6 +60,7 @@ fn not_a_number(out: &mut [u8])
 }
 
 // The hundredths of x in the whole of out.
+#[tactic(auto, using(crate::proofs::Printed::cases_printed))]
 pub fn hundredths_field(x: f32, out: &mut [u8])
     ensures { out.new ≡ hundredths_field x (length out.old) }
 {
@@ -65,4 +69,22 @@ pub fn hundredths_field(x: f32, out: &mut [u8])
         Hundredths::Over => out.fill(b'*'),
         Hundredths::NotANumber => not_a_number(out),
     }
+}
+
+// The integer field of v, in N columns.
+pub fn integer_columns<const N: usize>(v: i64) -> [u8; N]
+    ensures { result ≡ integer_field v N }
+{
+    let mut columns = [b' '; N];
+    i(v, &mut columns);
+    columns
+}
+
+// The hundredths of x, in N columns.
+pub fn hundredths_columns<const N: usize>(x: f32) -> [u8; N]
+    ensures { result ≡ hundredths_field x N }
+{
+    let mut columns = [b' '; N];
+    hundredths_field(x, &mut columns);
+    columns
 }
