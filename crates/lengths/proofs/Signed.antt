@@ -83,5 +83,5 @@ unfolding mul
 pub monopole_signed : (v wave : Float) → phase_of monopole_turn (length_of v) wave ≡ signed_monopole v wave
 unfolding phase_of signed_monopole
 monopole_signed v wave =
-    by_sign monopole_turn v wave
-    ∙ ap (λ (y : Float). cond (lt (num 0 1) v) (metres monopole_turn v wave) (record { phase = y; waves = absolute v })) (⊠_comm monopole_turn (absolute v))
+    let of_phase = λ (y : Float). cond (lt (num 0 1) v) (metres monopole_turn v wave) (record { phase = y; waves = absolute v }) in
+    by_sign monopole_turn v wave ∙ ap of_phase (⊠_comm monopole_turn (absolute v))

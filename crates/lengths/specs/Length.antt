@@ -37,6 +37,7 @@ phase_of turn (Wavelengths x) wave = in_waves turn x
 abbrev pub height_turn : Float
 height_turn = num 62832 10000
 
--- the turn of types 2 and 5, of their height, which is their leg: a and x. The Rust multiplies wavelengths the other way round, which is the same product: proofs/Signed.antt
+-- the turn of types 2 and 5, of their height, which is their leg: a and x. The Rust multiplies wavelengths the other way round,
+-- which is the same product: proofs/Signed.antt
 abbrev pub monopole_turn : Float
 monopole_turn = num 6283185 1000000

@@ -1,4 +1,5 @@
--- The three roles as `iongain2` writes them, on the number with its sign. Definitions only: proofs/Signed.antt says that reading a number's kind first changes nothing.
+-- The three roles as `iongain2` writes them, on the number with its sign. Definitions only: proofs/Signed.antt says that reading
+-- a number's kind first changes nothing.
 use Rattle.std.specs.Prelude.{cond, Float}
 use Rattle.std.specs.Float.Ieee.{lt}
 use Rattle.single.specs.Single.{◌⊠◌, ◌⊘◌, num}

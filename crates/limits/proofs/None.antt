@@ -22,6 +22,7 @@ unfolding first_refusal
 zero_none [] n = (λ e. refl, λ e. refl)
 zero_none (t ∷ ts) n = go t.holds n.0 (zero_none ts n.1)
   where
-    go : (b : Bool) → (b ≡ true → 0 < t.number) → (first_refusal ts ≡ 0) ↔ (any_holds ts ≡ false) → (cond b t.number (first_refusal ts) ≡ 0) ↔ ((b || any_holds ts) ≡ false)
+    go : (b : Bool) → (b ≡ true → 0 < t.number) → (first_refusal ts ≡ 0) ↔ (any_holds ts ≡ false)
+        → (cond b t.number (first_refusal ts) ≡ 0) ↔ ((b || any_holds ts) ≡ false)
     go true some rest = (λ e. absurd (omega (arith, e, some refl)), λ e. absurd (subst T e tt))
     go false some rest = rest

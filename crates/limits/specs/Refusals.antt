@@ -1,4 +1,5 @@
--- Document 01, "Order": a refusal is a test with its number. An entry has a list of them and answers the number of the first that holds, 0 if none does. Definitions only.
+-- Document 01, "Order": a refusal is a test with its number. An entry has a list of them and answers the number of the first that
+-- holds, 0 if none does. Definitions only.
 use Rattle.std.specs.Prelude.{ℕ, Bool, cond, List, [], ◌∷◌}
 
 pub record Test : Type 0 where

@@ -42,8 +42,8 @@ accepted t fmc delta e =
     (eqb-true (length t) table_length p.0, frequency, elevation)
 
 -- by whether the table's length is right
-pub judged_by_length : (t : List Float) (fmc delta : Float) {l : Bool} {r : Result Unit Refusal} → l ≡ is_table t → IsJudged (refusal_by_length l fmc delta) r
-    → IsJudged (lookup_refusal t fmc delta) r
+pub judged_by_length : (t : List Float) (fmc delta : Float) {l : Bool} {r : Result Unit Refusal} → l ≡ is_table t
+    → IsJudged (refusal_by_length l fmc delta) r → IsJudged (lookup_refusal t fmc delta) r
 unfolding lookup_refusal refusal_by_length
 judged_by_length t fmc delta e j = rw e at j
 

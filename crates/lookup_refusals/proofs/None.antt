@@ -17,4 +17,5 @@ zero_none_of_lookup t fmc delta = zero_none (lookup_tests t fmc delta) (λ h. om
 pub zero_none_of_card : (first last : ℤ) (verdict : ℕ) (t : List Float) (fmc delta : Float)
     → (card_refusal first last verdict t fmc delta ≡ 0) ↔ (any_holds (card_tests first last verdict t fmc delta) ≡ false)
 unfolding card_refusal
-zero_none_of_card first last verdict t fmc delta = zero_none (card_tests first last verdict t fmc delta) (λ h. omega arith, (λ h. omega arith, (λ h. omega arith, tt)))
+zero_none_of_card first last verdict t fmc delta =
+    zero_none (card_tests first last verdict t fmc delta) (λ h. omega arith, (λ h. omega arith, (λ h. omega arith, tt)))

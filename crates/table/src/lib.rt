@@ -46,6 +46,7 @@ pub fn clear_refused(table: &mut [f32])
 }
 
 // 1 to 30 MHz, the first not above the last.
+#[tactic(auto, unfolding(crate::specs::Range::is_range))]
 pub fn is_range(first: i32, last: i32) -> bool
     ensures { result ≡ is_range first last }
 {

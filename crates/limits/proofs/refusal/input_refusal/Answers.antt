@@ -37,7 +37,8 @@ fifth : (c : After-too_many_bays) → let a = c.args in input_refusal a.kop a.ou
 unfolding input_refusal first_refusal round of_bits
 fifth c =
     let a = c.args in
-    let b : c.too_many_bays.result ≡ too_many_bays a.kop a.bays = c.too_many_bays.ensures ∙ ap (λ (k : ℤ). too_many_bays k a.bays) (to_z-of_z w32 a.kop (search rules)) in
+    let b : c.too_many_bays.result ≡ too_many_bays a.kop a.bays =
+    c.too_many_bays.ensures ∙ ap (λ (k : ℤ). too_many_bays k a.bays) (to_z-of_z w32 a.kop (search rules)) in
     rw (← typed c.before.before.before.before.before, c.if-not-is_ioncap_type.false, c.if-outside.false, c.if-not-asig.false, c.if-mhz_outside.false, ← b)
 
 pub returns-then-too_many_bays : goal.returns-then-too_many_bays

@@ -11,4 +11,5 @@ pub returns : goal.returns
 unfolding is_ioncap_type
 returns c =
     c.contains.ensures.value
-    ∙ rw (c.new.ensures.start, c.new.ensures.end, c.new.ensures.exhausted) (rw (to_z-of_z w32 c.args.kop (search rules)) (within_is (pos 1) (pos 10) c.args.kop))
+    ∙ rw (c.new.ensures.start, c.new.ensures.end, c.new.ensures.exhausted)
+    (rw (to_z-of_z w32 c.args.kop (search rules)) (within_is (pos 1) (pos 10) c.args.kop))
