@@ -42,7 +42,8 @@ abbrev pub deck_then : (a b f : Bool) → ℕ → ℕ
 deck_then a b f r = cond a 10 (cond b 9 (cond f 7 r))
 
 -- as y is to x, so it is after them
-pub deck_then_lem : (a b f : Bool) (x y w : ℕ) → (x ≢ 0 → y ≡ x) × (x ≡ 0 → y ≡ w) → (deck_then a b f x ≢ 0 → deck_then a b f y ≡ deck_then a b f x) × (deck_then a b f x ≡ 0 → deck_then a b f y ≡ w)
+pub deck_then_lem : (a b f : Bool) (x y w : ℕ) → (x ≢ 0 → y ≡ x) × (x ≡ 0 → y ≡ w)
+    → (deck_then a b f x ≢ 0 → deck_then a b f y ≡ deck_then a b f x) × (deck_then a b f x ≡ 0 → deck_then a b f y ≡ w)
 deck_then_lem true b f x y w h = (λ p. refl, λ p. let z : ⊥ = omega arith in absurd z)
 deck_then_lem false true f x y w h = (λ p. refl, λ p. let z : ⊥ = omega arith in absurd z)
 deck_then_lem false false true x y w h = (λ p. refl, λ p. let z : ⊥ = omega arith in absurd z)
@@ -109,18 +110,21 @@ module _ (A : Antenna) (L : Laws A) (limit : ℕ) where
       deck_then_lem (leb limit (d.accepted + d.refused)) (not (finite d.height)) (not (is_table t)) _ _ _ (found_both (A.input_refusal c) (card_refusal A c d.height))
 
   -- ---- an entry's run by its verdict
-  by_verdict : (d : Deck) (e : Entry A) (t' : List Float) (v : ℕ) (d' : Deck) → verdict_on A limit d e ≡ v → t' ≡ table_by A limit e d.height v → d' ≡ deck_by A limit e d v → EntryDone A limit d e t' v d'
+  by_verdict : (d : Deck) (e : Entry A) (t' : List Float) (v : ℕ) (d' : Deck) → verdict_on A limit d e ≡ v → t' ≡ table_by A limit e d.height v
+      → d' ≡ deck_by A limit e d v → EntryDone A limit d e t' v d'
   unfolding outcome_on deck_after
   by_verdict d e t' v d' p q r =
       record { verdict = sym p; table = q ∙ ap (table_by A limit e d.height) (sym p); deck = r ∙ ap (deck_by A limit e d) (sym p) }
 
-  by_refusal : (d : Deck) (e : Entry A) (t' : List Float) (v : ℕ) (d' : Deck) → verdict_on A limit d e ≡ v → v ≢ 0 → t' ≡ refused_table e.table → d' ≡ refused_deck d v → EntryDone A limit d e t' v d'
+  by_refusal : (d : Deck) (e : Entry A) (t' : List Float) (v : ℕ) (d' : Deck) → verdict_on A limit d e ≡ v → v ≢ 0 → t' ≡ refused_table e.table
+      → d' ≡ refused_deck d v → EntryDone A limit d e t' v d'
   unfolding table_by deck_by
   by_refusal d e t' zero d' p n q r = absurd (n refl)
   by_refusal d e t' (suc v) d' p n q r = by_verdict d e t' (suc v) d' p q r
 
   -- refused before the work
-  pub entry_refused_before : (d : Deck) (c : A.Card) (t t' : List Float) (v : ℕ) (d' : Deck) → v ≡ refusal_before_work A limit d c t → v ≢ 0 → t' ≡ refused_table t → d' ≡ refused_deck d v
+  pub entry_refused_before : (d : Deck) (c : A.Card) (t t' : List Float) (v : ℕ) (d' : Deck) → v ≡ refusal_before_work A limit d c t → v ≢ 0
+      → t' ≡ refused_table t → d' ≡ refused_deck d v
       → EntryDone A limit d (record { line = card c; table = t }) t' v d'
   entry_refused_before d c t t' v d' s n q r =
       by_refusal d (record { line = card c; table = t }) t' v d' ((verdict_of_both d c t).0 (λ z. n (s ∙ z)) ∙ sym s) n q r
@@ -138,8 +142,10 @@ module _ (A : Antenna) (L : Laws A) (limit : ℕ) where
       never false false false p = omega arith
 
   -- refused in the work: the table was cleared to t₁, filled in part to t₂ and cleared again
-  pub entry_refused : (d : Deck) (c : A.Card) (t t₁ t₂ t' : List Float) (r : ℕ) (x : Float) (d' : Deck) → 0 ≡ refusal_before_work A limit d c t → t₁ ≡ refused_table t
-      → CardDone A c d.height t₁ t₂ r x → r ≢ 0 → t' ≡ refused_table t₂ → d' ≡ refused_deck d r → EntryDone A limit d (record { line = card c; table = t }) t' r d'
+  pub entry_refused : (d : Deck) (c : A.Card) (t t₁ t₂ t' : List Float) (r : ℕ) (x : Float) (d' : Deck) → 0 ≡ refusal_before_work A limit d c t
+      → t₁ ≡ refused_table t
+      → CardDone A c d.height t₁ t₂ r x → r ≢ 0 → t' ≡ refused_table t₂ → d' ≡ refused_deck d r
+      → EntryDone A limit d (record { line = card c; table = t }) t' r d'
   entry_refused d c t t₁ t₂ t' r x d' s p done n q w =
       let table = (none_before_work d c t (sym s)).table in
       let long : length t₂ ≡ length t = done.length ∙ ap length p ∙ refused_length t in
@@ -148,7 +154,8 @@ module _ (A : Antenna) (L : Laws A) (limit : ℕ) where
 
   -- accepted
   pub entry_accepted : (d : Deck) (c : A.Card) (t t₁ t' : List Float) (r : ℕ) (x : Float) → 0 ≡ refusal_before_work A limit d c t → t₁ ≡ refused_table t
-      → CardDone A c d.height t₁ t' r x → r ≡ 0 → EntryDone A limit d (record { line = card c; table = t }) t' 0 (record { height = x; accepted = d.accepted + 1; refused = d.refused })
+      → CardDone A c d.height t₁ t' r x → r ≡ 0
+      → EntryDone A limit d (record { line = card c; table = t }) t' 0 (record { height = x; accepted = d.accepted + 1; refused = d.refused })
   unfolding table_by deck_by
   entry_accepted d c t t₁ t' r x s p done z =
       by_verdict d (record { line = card c; table = t }) t' 0 (record { height = x; accepted = d.accepted + 1; refused = d.refused })

@@ -2,15 +2,17 @@
 use mathlib.Core.Path.{◌≡◌, refl, sym, ap, ap₂, ◌∙◌, subst}
 use mathlib.Core.Bool.{Bool, true, false, not, cond}
 use mathlib.Core.List.{List, [], ◌∷◌, map}
-use mathlib.Core.Logic.{◌⊎◌, inl, inr, ◌≢◌}
+use mathlib.Core.Logic.{inl, inr, ◌≢◌}
 use Prim.Native.Nat.{ℕ, zero, suc, ◌+◌, ◌-◌, ◌<◌, ◌≤◌}
 use native.Mathlib.Omega.{arith}
 use native.Mathlib.Nat.{not-suc-le-zero}
 use lib.ListN.{length, take}
 use lib.Seq.{ext_get_or}
-use lib.Dec.{T, T_not, eqb, eqb→eq, not_T, eqb-suc-zero}
+use lib.Dec.{T, T_not, eqb, eqb-suc-zero}
 use lib.Ieee.{Float}
 use lib.Ieee.Bits.{is_true, is_false}
+use borrow.Author.Tests.{ne_eqb}
+use Rattle.std.proofs.lemmas.Bool.{cases_order}
 use Rattle.single.specs.Single.{num}
 use Rattle.limits.specs.Refusals.{first_refusal}
 use Rattle.table.specs.Table.{gain_at, is_table}
@@ -24,21 +26,17 @@ use Rattle.independence.proofs.Runs.{run_length, run_same, run_without, fit_fewe
 use Rattle.independence.proofs.Rules.{filled_cell, height_shift, carried_shift, run_accepted}
 use Rattle.independence.proofs.Theorem.{fit_fresh}
 
-order : (a b : ℕ) → (a < b) ⊎ ((a ≡ b) ⊎ (b < a))
-order zero zero = inr (inl refl)
-order zero (suc b) = inl (omega arith)
-order (suc a) zero = inr (inr (omega arith))
-order (suc a) (suc b) = elim (order a b) [ inl l ↦ inl (omega arith) | inr (inl e) ↦ inr (inl (ap suc e)) | inr (inr l) ↦ inr (inr (omega arith)) ]
-
 module _ (A : Antenna) (L : Laws A) (limit : ℕ) where
   -- ---- verdicts: by the entry's own tests, whatever came before it. Refusals 9 and 10 never arise
-  own_from : (es : List (Entry A)) (d : Deck) → Fit limit d (length es) → map (λ (o : Outcome). o.verdict) (run A limit d es) ≡ map (λ (e : Entry A). first_refusal (own_tests A e (num 0 1))) es
+  own_from : (es : List (Entry A)) (d : Deck) → Fit limit d (length es)
+      → map (λ (o : Outcome). o.verdict) (run A limit d es) ≡ map (λ (e : Entry A). first_refusal (own_tests A e (num 0 1))) es
   unfolding run outcome_on
   own_from [] d f = refl
   own_from (e ∷ es) d f =
       ap₂ {C = List ℕ} (λ v vs. v ∷ vs) (verdict_own A L limit d (length es) e f ∙ own_same A L limit e d.height (num 0 1)) (own_from es (deck_after A limit d e) (fit_after A L limit d (length es) e f))
 
-  pub own_verdicts : (es : List (Entry A)) → length es ≤ limit → map (λ (o : Outcome). o.verdict) (run A limit fresh es) ≡ map (λ (e : Entry A). first_refusal (own_tests A e (num 0 1))) es
+  pub own_verdicts : (es : List (Entry A)) → length es ≤ limit
+      → map (λ (o : Outcome). o.verdict) (run A limit fresh es) ≡ map (λ (e : Entry A). first_refusal (own_tests A e (num 0 1))) es
   own_verdicts es l = own_from es fresh (fit_fresh A L limit (length es) l)
 
   abbrev Own : ℕ → Type 0
@@ -88,7 +86,8 @@ module _ (A : Antenna) (L : Laws A) (limit : ℕ) where
   never_from (e ∷ es) d f zero = verdict_is_own d (length es) e f
   never_from (e ∷ es) d f (suc j) = never_from es (deck_after A limit d e) (fit_after A L limit d (length es) e f) j
 
-  pub never_9_or_10 : (es : List (Entry A)) → length es ≤ limit → (j : ℕ) → ((outcome_at (run A limit fresh es) j).verdict ≢ 9) × ((outcome_at (run A limit fresh es) j).verdict ≢ 10)
+  pub never_9_or_10 : (es : List (Entry A)) → length es ≤ limit → (j : ℕ)
+      → ((outcome_at (run A limit fresh es) j).verdict ≢ 9) × ((outcome_at (run A limit fresh es) j).verdict ≢ 10)
   never_9_or_10 es l j = never_from es fresh (fit_fresh A L limit (length es) l) j
 
   -- ---- counts: each entry but one refused by 10 raises one of them by one
@@ -99,7 +98,7 @@ module _ (A : Antenna) (L : Laws A) (limit : ℕ) where
   raised e d zero n = (λ p. (refl, refl), λ p. absurd (p refl))
   raised e d (suc v) n = (
     λ p. let z : ⊥ = omega arith in absurd z,
-    λ p. (refl, ap (λ (b : Bool). cond b d.refused (suc d.refused)) (is_false (eqb (suc v) 10) (not_T (eqb (suc v) 10) (λ t. n (eqb→eq (suc v) 10 t))))),
+    λ p. (refl, ap (λ (b : Bool). cond b d.refused (suc d.refused)) (ne_eqb (suc v) 10 n)),
   )
 
   pub one_count : (d : Deck) (e : Entry A) → verdict_on A limit d e ≢ 10
@@ -143,11 +142,13 @@ module _ (A : Antenna) (L : Laws A) (limit : ℕ) where
   both_counts [] = refl
   both_counts (o ∷ os) = go (eqb o.verdict 0) (both_counts os)
     where
-      go : (b : Bool) → accepted_in os + refused_in os ≡ length os → cond b (suc (accepted_in os)) (accepted_in os) + cond b (refused_in os) (suc (refused_in os)) ≡ suc (length os)
+      go : (b : Bool) → accepted_in os + refused_in os ≡ length os
+          → cond b (suc (accepted_in os)) (accepted_in os) + cond b (refused_in os) (suc (refused_in os)) ≡ suc (length os)
       go true p = omega arith
       go false p = omega arith
 
-  pub counts_sum : (es : List (Entry A)) → length es ≤ limit → (deck_after_all A limit fresh es).accepted + (deck_after_all A limit fresh es).refused ≡ length es
+  pub counts_sum : (es : List (Entry A)) → length es ≤ limit
+      → (deck_after_all A limit fresh es).accepted + (deck_after_all A limit fresh es).refused ≡ length es
   counts_sum es l = let c = counts es l in ap₂ (λ (a b : ℕ). a + b) c.0 c.1 ∙ both_counts (run A limit fresh es) ∙ run_length A limit fresh es
 
   -- ---- when nothing at all differs: no cell may, the removed entry is refused, or the next accepted card is of another type
@@ -168,7 +169,8 @@ module _ (A : Antenna) (L : Laws A) (limit : ℕ) where
   without_length (suc k) (x ∷ xs) (y ∷ ys) e = ap suc (without_length k xs ys (omega arith))
 
   pub nothing_differs : (es : List (Entry A)) (k : ℕ) → length es ≤ limit
-      → ((j i : ℕ) → MayDiffer A (without k es) (run A limit fresh (without k es)) k j i → ⊥) → without k (run A limit fresh es) ≡ run A limit fresh (without k es)
+      → ((j i : ℕ) → MayDiffer A (without k es) (run A limit fresh (without k es)) k j i → ⊥)
+      → without k (run A limit fresh es) ≡ run A limit fresh (without k es)
   nothing_differs es k l none =
       ext_get_or (record { verdict = 8; table = [] }) (without k (run A limit fresh es)) (run A limit fresh (without k es))
       (without_length k (run A limit fresh es) es (run_length A limit fresh es) ∙ sym (run_length A limit fresh (without k es)))
@@ -180,7 +182,8 @@ module _ (A : Antenna) (L : Laws A) (limit : ℕ) where
   past_refused malformed zero h n = refl
   past_refused malformed (suc v) h n = refl
 
-  removed_refused : (k : ℕ) (es : List (Entry A)) (d : Deck) → Fit limit d (length es) → (outcome_at (run A limit d es) k).verdict ≢ 0 → without k (run A limit d es) ≡ run A limit d (without k es)
+  removed_refused : (k : ℕ) (es : List (Entry A)) (d : Deck) → Fit limit d (length es) → (outcome_at (run A limit d es) k).verdict ≢ 0
+      → without k (run A limit d es) ≡ run A limit d (without k es)
   unfolding run without outcome_on
   removed_refused zero [] d f r = refl
   removed_refused (suc k) [] d f r = refl
@@ -190,7 +193,8 @@ module _ (A : Antenna) (L : Laws A) (limit : ℕ) where
   removed_refused (suc k) (e ∷ es) d f r =
       ap {B = List Outcome} (λ os. outcome_on A limit d e ∷ os) (removed_refused k es (deck_after A limit d e) (fit_after A L limit d (length es) e f) r)
 
-  pub refused_removed : (es : List (Entry A)) (k : ℕ) → length es ≤ limit → (outcome_at (run A limit fresh es) k).verdict ≢ 0 → without k (run A limit fresh es) ≡ run A limit fresh (without k es)
+  pub refused_removed : (es : List (Entry A)) (k : ℕ) → length es ≤ limit → (outcome_at (run A limit fresh es) k).verdict ≢ 0
+      → without k (run A limit fresh es) ≡ run A limit fresh (without k es)
   refused_removed es k l r = removed_refused k es fresh (fit_fresh A L limit (length es) l) r
 
   card_or : A.Card → Line A → A.Card
@@ -201,9 +205,9 @@ module _ (A : Antenna) (L : Laws A) (limit : ℕ) where
   module _ (es : List (Entry A)) (os : List Outcome) (k j j' : ℕ) (c c' : A.Card) (a : NextAccepted A es os k j c) (a' : NextAccepted A es os k j' c') where
     next_place : j ≡ j'
     next_place =
-        elim (order j j') [
-          | inl l ↦ absurd (a'.between j a.after l a.accepted.verdict)
-          | inr (inl e) ↦ e
+        elim (cases_order j j') [
+          | inl e ↦ e
+          | inr (inl l) ↦ absurd (a'.between j a.after l a.accepted.verdict)
           | inr (inr l) ↦ absurd (a.between j' a'.after l a'.accepted.verdict)
         ]
 
@@ -217,7 +221,8 @@ module _ (A : Antenna) (L : Laws A) (limit : ℕ) where
     x.on_ground ∙ ap (λ (c : A.Card). gain_at (A.first c) 0) (next_card es os k j j' x.the_card x'.the_card x.next x'.next) ∙ sym x'.on_ground,
   )
 
-  pub other_type_next : (es : List (Entry A)) (k j : ℕ) (c : A.Card) → length es ≤ limit → NextAccepted A (without k es) (run A limit fresh (without k es)) k j c
+  pub other_type_next : (es : List (Entry A)) (k j : ℕ) (c : A.Card) → length es ≤ limit
+      → NextAccepted A (without k es) (run A limit fresh (without k es)) k j c
       → T (not (carries_height (A.type_of c))) → without k (run A limit fresh es) ≡ run A limit fresh (without k es)
   other_type_next es k j c l a other =
       nothing_differs es k l
@@ -227,7 +232,8 @@ module _ (A : Antenna) (L : Laws A) (limit : ℕ) where
 
   -- ---- the carried height
   -- it is the deck's height as each entry finds it
-  pub deck_height : (es : List (Entry A)) (d : Deck) (j : ℕ) → j ≤ length es → (deck_after_all A limit d (take j es)).height ≡ carried A d.height es (run A limit d es) j
+  pub deck_height : (es : List (Entry A)) (d : Deck) (j : ℕ) → j ≤ length es
+      → (deck_after_all A limit d (take j es)).height ≡ carried A d.height es (run A limit d es) j
   unfolding run deck_after_all carried
   deck_height es d zero l = refl
   deck_height [] d (suc j) l = absurd (not-suc-le-zero l)
@@ -236,7 +242,8 @@ module _ (A : Antenna) (L : Laws A) (limit : ℕ) where
       ∙ ap (λ (h : Float). carried A h es (run A limit (deck_after A limit d e) es) j) (height_shift A L limit d e)
       ∙ carried_shift A L limit d.height e es (outcome_on A limit d e) (run A limit (deck_after A limit d e) es) j
 
-  refused_keep : (h : Float) (es : List (Entry A)) (os : List Outcome) (i n : ℕ) → ((m : ℕ) → i ≤ m → m < i + n → (outcome_at os m).verdict ≢ 0) → carried A h es os (i + n) ≡ carried A h es os i
+  refused_keep : (h : Float) (es : List (Entry A)) (os : List Outcome) (i n : ℕ) → ((m : ℕ) → i ≤ m → m < i + n → (outcome_at os m).verdict ≢ 0)
+      → carried A h es os (i + n) ≡ carried A h es os i
   unfolding carried
   refused_keep h es os i zero none = ap (carried A h es os) (let z : i + 0 ≡ i = omega arith in z)
   refused_keep h es os i (suc n) none =
@@ -258,7 +265,8 @@ module _ (A : Antenna) (L : Laws A) (limit : ℕ) where
       ap (carried_after_rows A c h) n ∙ ap (height_left A c) at
 
   -- zero if none was accepted before
-  pub zero_if_none : (es : List (Entry A)) (os : List Outcome) (j : ℕ) → ((n : ℕ) → n < j → (outcome_at os n).verdict ≢ 0) → carried A (num 0 1) es os j ≡ num 0 1
+  pub zero_if_none : (es : List (Entry A)) (os : List Outcome) (j : ℕ) → ((n : ℕ) → n < j → (outcome_at os n).verdict ≢ 0)
+      → carried A (num 0 1) es os j ≡ num 0 1
   unfolding carried
   zero_if_none es os j none =
       let z : 0 + j ≡ j = omega arith in
@@ -270,7 +278,8 @@ module _ (A : Antenna) (L : Laws A) (limit : ℕ) where
     pub accepted : Accepted A es os i c
     pub between : (n : ℕ) → i < n → n < j → (outcome_at os n).verdict ≢ 0
 
-  pub after_last : (es : List (Entry A)) (i j : ℕ) (c : A.Card) → LastAccepted es (run A limit fresh es) i j c → carried A (num 0 1) es (run A limit fresh es) j ≡ height_left A c (A.last c)
+  pub after_last : (es : List (Entry A)) (i j : ℕ) (c : A.Card) → LastAccepted es (run A limit fresh es) i j c
+      → carried A (num 0 1) es (run A limit fresh es) j ≡ height_left A c (A.last c)
   unfolding carried
   after_last es i j c a =
       let os = run A limit fresh es in
@@ -293,7 +302,8 @@ module _ (A : Antenna) (L : Laws A) (limit : ℕ) where
   own_after_2_or_5 es i j c a own = after_last es i j c a ∙ ap (λ (b : Bool). cond b (A.wavelengths c (A.last c)) (num 1 1)) (is_true (carries_height (A.type_of c)) own)
 
   -- it is the height that an accepted card's last cell leaves
-  pub left_by_last_cell : (c : A.Card) (h : Float) → Passes A c h → (call_at A c (A.last c) (carried_at_row A c h (A.last c)) 90).height ≡ height_left A c (A.last c)
+  pub left_by_last_cell : (c : A.Card) (h : Float) → Passes A c h
+      → (call_at A c (A.last c) (carried_at_row A c h (A.last c)) 90).height ≡ height_left A c (A.last c)
   left_by_last_cell c h p =
       let r = L.range c p.input in
       L.leaves c (A.last c) 89 (height_at A c (A.last c) (carried_at_row A c h (A.last c)) 90) (last_fills A L limit c p.input) (omega arith) (filled_cell A L limit c h (A.last c) 90 p r.1 (omega arith) (omega arith)).1

@@ -15,7 +15,8 @@ use Rattle.independence.proofs.Rows.{gains_length, Filled, rows_fill}
 
 module _ (A : Antenna) (L : Laws A) where
   -- the gains of a row leave all efficiencies
-  gains_keep : (c : A.Card) (m : ℕ) (h : Float) (n m' : ℕ) (t : List Float) → m ≤ 30 → n ≤ 91 → cell (gains_in A c m h n t) (efficiency_at m') ≡ cell t (efficiency_at m')
+  gains_keep : (c : A.Card) (m : ℕ) (h : Float) (n m' : ℕ) (t : List Float) → m ≤ 30 → n ≤ 91
+      → cell (gains_in A c m h n t) (efficiency_at m') ≡ cell t (efficiency_at m')
   unfolding gains_in
   gains_keep c m h zero m' t top k = refl
   gains_keep c m h (suc n) m' t top k =

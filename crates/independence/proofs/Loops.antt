@@ -63,7 +63,8 @@ module _ (A : Antenna) (L : Laws A) where
   above_any c m h x (suc d) F l k = L.above c m d x (height_at A c m h (suc d)) F k
 
   -- v is stored at i
-  pub row_step : (c : A.Card) (m : ℕ) (x : Float) (t₁ t : List Float) (d i : ℕ) (v : Float) → Fills A c m → GainsStored A c m t₁ t d → d < 91 → i ≡ gain_at m d → v ≡ (A.call c m d x).gain
+  pub row_step : (c : A.Card) (m : ℕ) (x : Float) (t₁ t : List Float) (d i : ℕ) (v : Float) → Fills A c m → GainsStored A c m t₁ t d → d < 91
+      → i ≡ gain_at m d → v ≡ (A.call c m d x).gain
       → GainsStored A c m t₁ (set t i v) (d + 1)
   unfolding gains_in
   row_step c m x t₁ t d i v F s k at e =
@@ -78,12 +79,15 @@ module _ (A : Antenna) (L : Laws A) where
   pub row_done : (c : A.Card) (m : ℕ) (t₁ t : List Float) (d : ℕ) → GainsStored A c m t₁ t d → 91 ≤ d → GainsStored A c m t₁ t 91
   row_done c m t₁ t d s l = let top : d ≡ 91 = omega (arith, s.top) in subst (GainsStored A c m t₁ t) top s
 
-  pub row_stops : (c : A.Card) (m : ℕ) (h : Float) (t₀ t : List Float) (r : ℕ) (y : Float) → length t ≡ length t₀ → r ≢ 0 → r ≡ cells_refusal A c m h 91 → RowDone A c m h t₀ t r y
+  pub row_stops : (c : A.Card) (m : ℕ) (h : Float) (t₀ t : List Float) (r : ℕ) (y : Float) → length t ≡ length t₀ → r ≢ 0 → r ≡ cells_refusal A c m h 91
+      → RowDone A c m h t₀ t r y
   row_stops c m h t₀ t r y l n e = record { verdict = e; length = l; table = λ z. absurd (n z); height = λ z. absurd (n z) }
 
   -- g was stored at i₀ for the ground cell; v, the efficiency of the 90-degree call made with any height x, is stored at i; y is the height that the row leaves
-  pub row_ends : (c : A.Card) (m : ℕ) (h x : Float) (t₀ t : List Float) (i₀ d i : ℕ) (g v y : Float) → Fills A c m → GainsStored A c m (set t₀ i₀ g) t d → 91 ≤ d → 0 ≡ cells_refusal A c m h 91
-      → i₀ ≡ gain_at m 0 → g ≡ (A.call c m 0 h).gain → i ≡ efficiency_at m → v ≡ (A.call c m 90 x).efficiency → y ≡ height_left A c m → RowDone A c m h t₀ (set t i v) 0 y
+  pub row_ends : (c : A.Card) (m : ℕ) (h x : Float) (t₀ t : List Float) (i₀ d i : ℕ) (g v y : Float) → Fills A c m → GainsStored A c m (set t₀ i₀ g) t d
+      → 91 ≤ d → 0 ≡ cells_refusal A c m h 91
+      → i₀ ≡ gain_at m 0 → g ≡ (A.call c m 0 h).gain → i ≡ efficiency_at m → v ≡ (A.call c m 90 x).efficiency → y ≡ height_left A c m
+      → RowDone A c m h t₀ (set t i v) 0 y
   unfolding row_in
   row_ends c m h x t₀ t i₀ d i g v y F s l none at₀ e₀ at e left =
       let top : d ≡ 91 = omega (arith, s.top) in
@@ -101,12 +105,14 @@ module _ (A : Antenna) (L : Laws A) where
   unfolding rows_refusal height_after rows_in
   card_start c h t = record { top = omega arith; length = refl; none = refl; height = refl; table = refl }
 
-  row_verdict : (c : A.Card) (h : Float) (t t' : List Float) (x y : Float) (n r : ℕ) → rows_refusal A c h n ≡ 0 → x ≡ height_after A c h n → RowDone A c (A.first c + n) x t t' r y → rows_refusal A c h (suc n) ≡ r
+  row_verdict : (c : A.Card) (h : Float) (t t' : List Float) (x y : Float) (n r : ℕ) → rows_refusal A c h n ≡ 0 → x ≡ height_after A c h n
+      → RowDone A c (A.first c + n) x t t' r y → rows_refusal A c h (suc n) ≡ r
   unfolding rows_refusal
   row_verdict c h t t' x y n r none same done =
       ap₂ first_of none (ap (λ (k : Float). cells_refusal A c (A.first c + n) k 91) (sym same) ∙ sym done.verdict)
 
-  pub card_step : (c : A.Card) (h : Float) (t₀ t t' : List Float) (x y : Float) (n r : ℕ) → CardInv A c h t₀ t x n → n < rows_of A c → RowDone A c (A.first c + n) x t t' r y → r ≡ 0
+  pub card_step : (c : A.Card) (h : Float) (t₀ t t' : List Float) (x y : Float) (n r : ℕ) → CardInv A c h t₀ t x n → n < rows_of A c
+      → RowDone A c (A.first c + n) x t t' r y → r ≡ 0
       → CardInv A c h t₀ t' y (n + 1)
   unfolding height_after rows_in
   card_step c h t₀ t t' x y n r i l done z =
@@ -129,7 +135,8 @@ module _ (A : Antenna) (L : Laws A) where
         | inr q ↦ ap (λ (k : ℕ). first_of k (cells_refusal A c (A.first c + n) (height_after A c h n) 91)) (stays c h i n v (le_of_suc-le-suc q) e)
       ]
 
-  pub card_stops : (c : A.Card) (h : Float) (t₀ t t' : List Float) (x y z : Float) (n r : ℕ) → CardInv A c h t₀ t x n → n < rows_of A c → RowDone A c (A.first c + n) x t t' r y → r ≢ 0
+  pub card_stops : (c : A.Card) (h : Float) (t₀ t t' : List Float) (x y z : Float) (n r : ℕ) → CardInv A c h t₀ t x n → n < rows_of A c
+      → RowDone A c (A.first c + n) x t t' r y → r ≢ 0
       → CardDone A c h t₀ t' r z
   card_stops c h t₀ t t' x y z n r i l done bad =
       record { verdict = go r bad (row_verdict c h t t' x y n r i.none i.height done); length = done.length ∙ i.length; table = λ e. absurd (bad e); height = λ e. absurd (bad e) }

@@ -22,6 +22,7 @@ module _ (A : Antenna) (limit : ℕ) where
       own (card c) = (some_number _, (some_number _, tt))
       own malformed = (λ h. omega arith, tt)
 
-  pub zero_none_of_entry : (d : Deck) (e : Entry A) → (verdict_on A limit d e ≡ 0) ↔ (any_holds (deck_tests limit d e.table (line_tests A e.line d.height)) ≡ false)
+  pub zero_none_of_entry : (d : Deck) (e : Entry A)
+      → (verdict_on A limit d e ≡ 0) ↔ (any_holds (deck_tests limit d e.table (line_tests A e.line d.height)) ≡ false)
   unfolding verdict_on
   zero_none_of_entry d e = zero_none _ (numbered d e)

@@ -27,9 +27,6 @@ other_row m m' d e l l' h k k' = omega arith
 no_efficiency : (m m' d : ℕ) → m ≤ 30 → d < 91 → gain_at m d ≢ efficiency_at m'
 no_efficiency m m' d h k = omega arith
 
-pub below_suc : (d n : ℕ) → d < suc n → (d ≡ n) ⊎ (d < n)
-below_suc d n h = elim (eq-or-lt_of_le (le_of_suc-le-suc h)) [ inl e ↦ inl e | inr l ↦ inr l ]
-
 pub cleared_length : length cleared ≡ 2760
 unfolding cleared
 cleared_length = length-replicate 2760 (num 0 1)
@@ -60,7 +57,8 @@ module _ (A : Antenna) (L : Laws A) where
   row_fills : (c : A.Card) (i n : ℕ) → A.input_refusal c ≡ 0 → i < n → A.first c + n ≤ suc (A.last c) → Fills A c (A.first c + i)
   row_fills c i n p l top = record { passes = p; low = omega arith; high = omega arith }
 
-  pub rows_refusal_same : (c : A.Card) (h h' : Float) (n : ℕ) → A.input_refusal c ≡ 0 → A.first c + n ≤ suc (A.last c) → rows_refusal A c h n ≡ rows_refusal A c h' n
+  pub rows_refusal_same : (c : A.Card) (h h' : Float) (n : ℕ) → A.input_refusal c ≡ 0 → A.first c + n ≤ suc (A.last c)
+      → rows_refusal A c h n ≡ rows_refusal A c h' n
   unfolding rows_refusal
   rows_refusal_same c h h' zero p l = refl
   rows_refusal_same c h h' (suc n) p l =
@@ -73,7 +71,7 @@ module _ (A : Antenna) (L : Laws A) where
   unfolding cells_refusal
   call_accepted c m h zero d e l = absurd (not-suc-le-zero l)
   call_accepted c m h (suc n) d e l =
-      elim (below_suc d n l) [
+      elim (eq-or-lt_of_le (le_of_suc-le-suc l)) [
         | inl p ↦ subst (λ (k : ℕ). (call_at A c m h k).refusal ≡ 0) (sym p) (second_none (cells_refusal A c m h n) (call_at A c m h n).refusal e)
         | inr q ↦ call_accepted c m h n d (first-none (cells_refusal A c m h n) (call_at A c m h n).refusal e) q
       ]
@@ -90,7 +88,7 @@ module _ (A : Antenna) (L : Laws A) where
       → (rows_refusal A c h i ≡ 0) × (cells_refusal A c (A.first c + i) (height_after A c h i) 91 ≡ 0)
   row_accepted c h zero i e l = absurd (not-suc-le-zero l)
   row_accepted c h (suc n) i e l =
-      elim (below_suc i n l) [
+      elim (eq-or-lt_of_le (le_of_suc-le-suc l)) [
         | inl p ↦ subst (λ (k : ℕ). (rows_refusal A c h k ≡ 0) × (cells_refusal A c (A.first c + k) (height_after A c h k) 91 ≡ 0)) (sym p) (fewer_rows c h n e, last_row c h n e)
         | inr q ↦ row_accepted c h n i (fewer_rows c h n e) q
       ]
@@ -100,7 +98,8 @@ module _ (A : Antenna) (L : Laws A) where
   unfolding height_at
   row_height c m h F e = L.leaves c m 89 (height_at A c m h 90) F (omega arith) (call_accepted c m h 91 90 e (omega arith))
 
-  pub height_carried : (c : A.Card) (h : Float) (n : ℕ) → A.input_refusal c ≡ 0 → A.first c + n ≤ suc (A.last c) → rows_refusal A c h n ≡ 0 → height_after A c h n ≡ carried_after_rows A c h n
+  pub height_carried : (c : A.Card) (h : Float) (n : ℕ) → A.input_refusal c ≡ 0 → A.first c + n ≤ suc (A.last c) → rows_refusal A c h n ≡ 0
+      → height_after A c h n ≡ carried_after_rows A c h n
   unfolding height_after carried_after_rows
   height_carried c h zero p l e = refl
   height_carried c h (suc n) p l e = row_height c (A.first c + n) (height_after A c h n) (row_fills c n (suc n) p (omega arith) l) (last_row c h n e)
@@ -121,11 +120,12 @@ module _ (A : Antenna) (L : Laws A) where
   rows_length c h (suc n) t = row_length c (A.first c + n) (height_after A c h n) (rows_in A c h n t) ∙ rows_length c h n t
 
   -- ---- what stands in a filled row, and in the others
-  gains_cell : (c : A.Card) (m : ℕ) (h : Float) (n d : ℕ) (t : List Float) → m ≤ 30 → d < 91 → length t ≡ 2760 → d < n → cell (gains_in A c m h n t) (gain_at m d) ≡ (call_at A c m h d).gain
+  gains_cell : (c : A.Card) (m : ℕ) (h : Float) (n d : ℕ) (t : List Float) → m ≤ 30 → d < 91 → length t ≡ 2760 → d < n
+      → cell (gains_in A c m h n t) (gain_at m d) ≡ (call_at A c m h d).gain
   unfolding gains_in
   gains_cell c m h zero d t top k len l = absurd (not-suc-le-zero l)
   gains_cell c m h (suc n) d t top k len l =
-      elim (below_suc d n l) [
+      elim (eq-or-lt_of_le (le_of_suc-le-suc l)) [
         | inl p ↦
             subst (λ (j : ℕ). cell (set (gains_in A c m h n t) (gain_at m j) (call_at A c m h j).gain) (gain_at m d) ≡ (call_at A c m h d).gain) p
             (get_or-set_same (gains_in A c m h n t) (gain_at m d) (call_at A c m h d).gain (num 0 1) (omega (arith, gains_length c m h n t)))
@@ -134,20 +134,23 @@ module _ (A : Antenna) (L : Laws A) where
             ∙ gains_cell c m h n d t top k len q
       ]
 
-  gains_other : (c : A.Card) (m : ℕ) (h : Float) (n m' d : ℕ) (t : List Float) → 1 ≤ m → 1 ≤ m' → m' ≢ m → n ≤ 91 → d < 91 → cell (gains_in A c m h n t) (gain_at m' d) ≡ cell t (gain_at m' d)
+  gains_other : (c : A.Card) (m : ℕ) (h : Float) (n m' d : ℕ) (t : List Float) → 1 ≤ m → 1 ≤ m' → m' ≢ m → n ≤ 91 → d < 91
+      → cell (gains_in A c m h n t) (gain_at m' d) ≡ cell t (gain_at m' d)
   unfolding gains_in
   gains_other c m h zero m' d t l l' ne k k' = refl
   gains_other c m h (suc n) m' d t l l' ne k k' =
       get_or-set_other (gains_in A c m h n t) (gain_at m n) (gain_at m' d) (call_at A c m h n).gain (num 0 1) (other_row m' m d n l' l ne k' k)
       ∙ gains_other c m h n m' d t l l' ne (omega arith) k'
 
-  row_cell : (c : A.Card) (m : ℕ) (h : Float) (d : ℕ) (t : List Float) → m ≤ 30 → d < 91 → length t ≡ 2760 → cell (row_in A c m h t) (gain_at m d) ≡ (call_at A c m h d).gain
+  row_cell : (c : A.Card) (m : ℕ) (h : Float) (d : ℕ) (t : List Float) → m ≤ 30 → d < 91 → length t ≡ 2760
+      → cell (row_in A c m h t) (gain_at m d) ≡ (call_at A c m h d).gain
   unfolding row_in
   row_cell c m h d t top k len =
       get_or-set_other (gains_in A c m h 91 t) (efficiency_at m) (gain_at m d) (call_at A c m h 90).efficiency (num 0 1) (no_efficiency m m d top k)
       ∙ gains_cell c m h 91 d t top k len k
 
-  row_other : (c : A.Card) (m : ℕ) (h : Float) (m' d : ℕ) (t : List Float) → 1 ≤ m → 1 ≤ m' → m' ≤ 30 → m' ≢ m → d < 91 → cell (row_in A c m h t) (gain_at m' d) ≡ cell t (gain_at m' d)
+  row_other : (c : A.Card) (m : ℕ) (h : Float) (m' d : ℕ) (t : List Float) → 1 ≤ m → 1 ≤ m' → m' ≤ 30 → m' ≢ m → d < 91
+      → cell (row_in A c m h t) (gain_at m' d) ≡ cell t (gain_at m' d)
   unfolding row_in
   row_other c m h m' d t l l' top ne k =
       get_or-set_other (gains_in A c m h 91 t) (efficiency_at m) (gain_at m' d) (call_at A c m h 90).efficiency (num 0 1) (no_efficiency m' m d top k)
@@ -167,7 +170,7 @@ module _ (A : Antenna) (L : Laws A) where
     unfolding rows_in
     rows_fill h zero i t lo top len l = absurd (not-suc-le-zero l)
     rows_fill h (suc n) i t lo top len l =
-        elim (below_suc i n l) [
+        elim (eq-or-lt_of_le (le_of_suc-le-suc l)) [
           | inl p ↦
               subst
               (λ (j : ℕ). cell (row_in A c (A.first c + j) (height_after A c h j) (rows_in A c h n t)) (at (A.first c + i)) ≡ value (A.first c + i) (height_after A c h i)) p
@@ -210,7 +213,8 @@ module _ (A : Antenna) (L : Laws A) where
       (ap (λ (k : Answer). k.gain) (L.above c m d (height_at A c m h (suc d)) (height_at A c m h' (suc d)) F (omega arith)))
       ∙ sym (set_comm (gains_in A c m h' (suc d) t) (gain_at m (suc d)) (gain_at m 0) (call_at A c m h' (suc d)).gain z ne)
 
-  row_same : (c : A.Card) (m : ℕ) (h h' : Float) (t : List Float) (z : Float) → Fills A c m → m ≤ 30 → set (row_in A c m h t) (gain_at m 0) z ≡ set (row_in A c m h' t) (gain_at m 0) z
+  row_same : (c : A.Card) (m : ℕ) (h h' : Float) (t : List Float) (z : Float) → Fills A c m → m ≤ 30
+      → set (row_in A c m h t) (gain_at m 0) z ≡ set (row_in A c m h' t) (gain_at m 0) z
   unfolding row_in
   row_same c m h h' t z F top =
       let ne : efficiency_at m ≢ gain_at m 0 = omega arith in
@@ -220,7 +224,8 @@ module _ (A : Antenna) (L : Laws A) where
       ∙ sym (set_comm (gains_in A c m h' 91 t) (efficiency_at m) (gain_at m 0) (call_at A c m h' 90).efficiency z ne)
 
   -- a cell of an earlier row may be written before a row or after it
-  gains_commute : (c : A.Card) (m : ℕ) (h : Float) (n m' : ℕ) (t : List Float) (z : Float) → 1 ≤ m' → m' < m → set (gains_in A c m h n t) (gain_at m' 0) z ≡ gains_in A c m h n (set t (gain_at m' 0) z)
+  gains_commute : (c : A.Card) (m : ℕ) (h : Float) (n m' : ℕ) (t : List Float) (z : Float) → 1 ≤ m' → m' < m
+      → set (gains_in A c m h n t) (gain_at m' 0) z ≡ gains_in A c m h n (set t (gain_at m' 0) z)
   unfolding gains_in
   gains_commute c m h zero m' t z l k = refl
   gains_commute c m h (suc n) m' t z l k =
@@ -228,14 +233,16 @@ module _ (A : Antenna) (L : Laws A) where
       set_comm (gains_in A c m h n t) (gain_at m n) (gain_at m' 0) (call_at A c m h n).gain z ne
       ∙ ap (λ (l : List Float). set l (gain_at m n) (call_at A c m h n).gain) (gains_commute c m h n m' t z l k)
 
-  row_commute : (c : A.Card) (m : ℕ) (h : Float) (m' : ℕ) (t : List Float) (z : Float) → 1 ≤ m' → m' < m → m ≤ 30 → set (row_in A c m h t) (gain_at m' 0) z ≡ row_in A c m h (set t (gain_at m' 0) z)
+  row_commute : (c : A.Card) (m : ℕ) (h : Float) (m' : ℕ) (t : List Float) (z : Float) → 1 ≤ m' → m' < m → m ≤ 30
+      → set (row_in A c m h t) (gain_at m' 0) z ≡ row_in A c m h (set t (gain_at m' 0) z)
   unfolding row_in
   row_commute c m h m' t z l k top =
       let ne : efficiency_at m ≢ gain_at m' 0 = omega arith in
       set_comm (gains_in A c m h 91 t) (efficiency_at m) (gain_at m' 0) (call_at A c m h 90).efficiency z ne
       ∙ ap (λ (l : List Float). set l (efficiency_at m) (call_at A c m h 90).efficiency) (gains_commute c m h 91 m' t z l k)
 
-  pub rows_same : (c : A.Card) (h h' : Float) (n : ℕ) (t : List Float) (z : Float) → A.input_refusal c ≡ 0 → A.first c + suc n ≤ suc (A.last c) → rows_refusal A c h (suc n) ≡ 0
+  pub rows_same : (c : A.Card) (h h' : Float) (n : ℕ) (t : List Float) (z : Float) → A.input_refusal c ≡ 0 → A.first c + suc n ≤ suc (A.last c)
+      → rows_refusal A c h (suc n) ≡ 0
       → set (rows_in A c h (suc n) t) (gain_at (A.first c) 0) z ≡ set (rows_in A c h' (suc n) t) (gain_at (A.first c) 0) z
   unfolding rows_in height_after
   rows_same c h h' zero t z p l e =
@@ -254,11 +261,13 @@ module _ (A : Antenna) (L : Laws A) where
       ∙ ap₂ (λ (k : Float) (l : List Float). row_in A c m k l) same (rows_same c h h' n t z p l' e₁)
       ∙ sym (row_commute c m (height_after A c h' (suc n)) (A.first c) (rows_in A c h' (suc n) t) z r.0 (omega arith) (omega (arith, r)))
     where
-      last_height : (c : A.Card) (h : Float) (n : ℕ) → A.input_refusal c ≡ 0 → A.first c + suc n ≤ suc (A.last c) → rows_refusal A c h (suc n) ≡ 0 → height_after A c h (suc n) ≡ height_left A c (A.first c + n)
+      last_height : (c : A.Card) (h : Float) (n : ℕ) → A.input_refusal c ≡ 0 → A.first c + suc n ≤ suc (A.last c) → rows_refusal A c h (suc n) ≡ 0
+          → height_after A c h (suc n) ≡ height_left A c (A.first c + n)
       last_height c h n p l e = height_carried c h (suc n) p l e ∙ (unfold carried_after_rows in refl)
 
   -- ---- types other than 2 and 5: the ground gain is the same from every height, so the whole table is
-  ground_same_lem : (c : A.Card) (m : ℕ) (h h' : Float) → Fills A c m → (A.call c m 0 h).refusal ≡ 0 → T (not (carries_height (A.type_of c))) → (A.call c m 0 h).gain ≡ (A.call c m 0 h').gain
+  ground_same_lem : (c : A.Card) (m : ℕ) (h h' : Float) → Fills A c m → (A.call c m 0 h).refusal ≡ 0 → T (not (carries_height (A.type_of c)))
+      → (A.call c m 0 h).gain ≡ (A.call c m 0 h').gain
   ground_same_lem c m h h' F e other = go (has_second_call (A.type_of c)) (L.ground_same c m h h' F) (L.ground_gain c m h F) (L.ground_gain c m h' F)
     where
       go : (b : Bool) → (T b → (A.call c m 0 h).gain ≡ (A.call c m 0 h').gain)
@@ -280,7 +289,8 @@ module _ (A : Antenna) (L : Laws A) where
       ∙ set-set l' i z (cell l' i)
       ∙ set-get_or l' i (num 0 1)
 
-  pub rows_steady : (c : A.Card) (h h' : Float) (n : ℕ) (t : List Float) → length t ≡ 2760 → A.input_refusal c ≡ 0 → A.first c + suc n ≤ suc (A.last c) → rows_refusal A c h (suc n) ≡ 0
+  pub rows_steady : (c : A.Card) (h h' : Float) (n : ℕ) (t : List Float) → length t ≡ 2760 → A.input_refusal c ≡ 0 → A.first c + suc n ≤ suc (A.last c)
+      → rows_refusal A c h (suc n) ≡ 0
       → T (not (carries_height (A.type_of c))) → rows_in A c h (suc n) t ≡ rows_in A c h' (suc n) t
   unfolding height_after height_at
   rows_steady c h h' n t len p l e other =

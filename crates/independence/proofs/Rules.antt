@@ -89,7 +89,8 @@ module _ (A : Antenna) (L : Laws A) (limit : ℕ) where
       (subst AboveFloor
       (sym (rows_other A L c h (rows_of A c) m d cleared (L.range c p.input).0 l top k o ∙ cleared_cell m d top k)) zero_above)
 
-  filled : (c : A.Card) (h : Float) (m d : ℕ) → Passes A c h → T (not (eqb (A.type_of c) 2 || has_second_call (A.type_of c))) → A.first c ≤ m → m ≤ A.last c → d < 91
+  filled : (c : A.Card) (h : Float) (m d : ℕ) → Passes A c h → T (not (eqb (A.type_of c) 2 || has_second_call (A.type_of c))) → A.first c ≤ m → m ≤ A.last c
+      → d < 91
       → cell (card_table A c h) (gain_at m d) ≢ nan → Floored c h m d
   filled c h m d p type lo hi k number =
       let g = filled_cell c h m d p lo hi k in
@@ -121,7 +122,8 @@ module _ (A : Antenna) (L : Laws A) (limit : ℕ) where
       }
 
   -- ---- in a run
-  card_accepted : (d : Deck) (e : Entry A) (c : A.Card) → e.line ≡ card c → (outcome_on A limit d e).verdict ≡ 0 → AcceptedCard A c d.height (outcome_on A limit d e).table
+  card_accepted : (d : Deck) (e : Entry A) (c : A.Card) → e.line ≡ card c → (outcome_on A limit d e).verdict ≡ 0
+      → AcceptedCard A c d.height (outcome_on A limit d e).table
   unfolding outcome_on table_by
   card_accepted d e c is v =
       let v' : verdict_on A limit d (record { line = card c; table = e.table }) ≡ 0 = subst (λ (l : _). verdict_on A limit d (record { line = l; table = e.table }) ≡ 0) is v in

@@ -30,7 +30,8 @@ module _ (A : Antenna) (limit : ℕ) where
 
 module _ (A : Antenna) (L : Laws A) (limit : ℕ) where
   -- ---- the cell that may differ, one place further on
-  shift : (e : Entry A) (es : List (Entry A)) (o : Outcome) (os : List Outcome) (k k' j i : ℕ) → MayDiffer A es os k j i → k' ≤ suc j → (k' ≤ 0 → o.verdict ≢ 0) → ((n : ℕ) → k' ≤ suc n → k ≤ n)
+  shift : (e : Entry A) (es : List (Entry A)) (o : Outcome) (os : List Outcome) (k k' j i : ℕ) → MayDiffer A es os k j i → k' ≤ suc j
+      → (k' ≤ 0 → o.verdict ≢ 0) → ((n : ℕ) → k' ≤ suc n → k ≤ n)
       → MayDiffer A (e ∷ es) (o ∷ os) k' (suc j) i
   shift e es o os k k' j i x after first past =
       record {
@@ -45,13 +46,16 @@ module _ (A : Antenna) (L : Laws A) (limit : ℕ) where
       earlier (suc n) l m = x.next.between n (past n l) (le_of_suc-le-suc m)
 
   -- past an entry before the removed one, and past a refused one after it
-  shift_both : (e : Entry A) (es : List (Entry A)) (o : Outcome) (os : List Outcome) (k j i : ℕ) → MayDiffer A es os k j i → MayDiffer A (e ∷ es) (o ∷ os) (suc k) (suc j) i
+  shift_both : (e : Entry A) (es : List (Entry A)) (o : Outcome) (os : List Outcome) (k j i : ℕ) → MayDiffer A es os k j i
+      → MayDiffer A (e ∷ es) (o ∷ os) (suc k) (suc j) i
   shift_both e es o os k j i x = shift e es o os k (suc k) j i x (suc-le-suc x.next.after) (λ l. absurd (not-suc-le-zero l)) (λ n l. le_of_suc-le-suc l)
 
-  shift_refused : (e : Entry A) (es : List (Entry A)) (o : Outcome) (os : List Outcome) (j i : ℕ) → o.verdict ≢ 0 → MayDiffer A es os 0 j i → MayDiffer A (e ∷ es) (o ∷ os) 0 (suc j) i
+  shift_refused : (e : Entry A) (es : List (Entry A)) (o : Outcome) (os : List Outcome) (j i : ℕ) → o.verdict ≢ 0 → MayDiffer A es os 0 j i
+      → MayDiffer A (e ∷ es) (o ∷ os) 0 (suc j) i
   shift_refused e es o os j i r x = shift e es o os 0 0 j i x zero-le (λ l. r) (λ n l. zero-le)
 
-  first_exempt : (e : Entry A) (es : List (Entry A)) (o : Outcome) (os : List Outcome) (i : ℕ) → DependsOnHeight A e o.verdict i → MayDiffer A (e ∷ es) (o ∷ os) 0 0 i
+  first_exempt : (e : Entry A) (es : List (Entry A)) (o : Outcome) (os : List Outcome) (i : ℕ) → DependsOnHeight A e o.verdict i
+      → MayDiffer A (e ∷ es) (o ∷ os) 0 0 i
   first_exempt e es o os i x =
       record {
         the_card = x.the_card;
@@ -61,7 +65,8 @@ module _ (A : Antenna) (L : Laws A) (limit : ℕ) where
       }
 
   -- ---- a list from two decks of one height
-  pub run_same : (es : List (Entry A)) (d d' : Deck) → Fit limit d (length es) → Fit limit d' (length es) → d.height ≡ d'.height → run A limit d es ≡ run A limit d' es
+  pub run_same : (es : List (Entry A)) (d d' : Deck) → Fit limit d (length es) → Fit limit d' (length es) → d.height ≡ d'.height
+      → run A limit d es ≡ run A limit d' es
   unfolding run
   run_same [] d d' f f' p = refl
   run_same (e ∷ es) d d' f f' p =
@@ -70,11 +75,13 @@ module _ (A : Antenna) (L : Laws A) (limit : ℕ) where
       (run_same es (deck_after A limit d e) (deck_after A limit d' e) (fit_after A L limit d n e f) (fit_after A L limit d' n e f') (height_same A L limit d d' n e f f' p))
 
   -- ---- and of any heights: after an accepted entry the heights are the same
-  past_accepted : (l : Line A) (t : List Float) (d : Deck) (h' : Float) → verdict_on A limit d (record { line = l; table = t }) ≡ 0 → carried_after_entry A l 0 d.height ≡ carried_after_entry A l 0 h'
+  past_accepted : (l : Line A) (t : List Float) (d : Deck) (h' : Float) → verdict_on A limit d (record { line = l; table = t }) ≡ 0
+      → carried_after_entry A l 0 d.height ≡ carried_after_entry A l 0 h'
   past_accepted (card c) t d h' e = let p = (accepted_passes A L limit d c t e).input in card_leaves A L limit c d.height p ∙ sym (card_leaves A L limit c h' p)
   past_accepted malformed t d h' e = absurd (malformed_refused A L limit d t e)
 
-  height_accepted : (d d' : Deck) (e : Entry A) → verdict_on A limit d e ≡ 0 → verdict_on A limit d' e ≡ 0 → (deck_after A limit d e).height ≡ (deck_after A limit d' e).height
+  height_accepted : (d d' : Deck) (e : Entry A) → verdict_on A limit d e ≡ 0 → verdict_on A limit d' e ≡ 0
+      → (deck_after A limit d e).height ≡ (deck_after A limit d' e).height
   height_accepted d d' e p p' =
       height_past A L limit d e
       ∙ ap (λ (v : ℕ). carried_after_entry A e.line v d.height) p

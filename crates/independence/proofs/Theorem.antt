@@ -17,7 +17,8 @@ module _ (A : Antenna) (L : Laws A) (limit : ℕ) where
   unfolding round
   fit_fresh n l = record { height = tt; room = omega arith }
 
-  pub demand3 : (entries : List (Entry A)) (k : ℕ) → length entries ≤ limit → Demand3 A entries (run A limit fresh entries) k (run A limit fresh (without k entries))
+  pub demand3 : (entries : List (Entry A)) (k : ℕ) → length entries ≤ limit
+      → Demand3 A entries (run A limit fresh entries) k (run A limit fresh (without k entries))
   demand3 entries k l =
       record {
         complete = run_length A limit fresh entries;

@@ -2,14 +2,14 @@
 use mathlib.Core.Path.{◌≡◌, refl, sym, ap, ap₂, ◌∙◌, subst}
 use mathlib.Core.Bool.{Bool, true, false, not, cond}
 use mathlib.Core.List.{List}
-use Prim.Native.Nat.{ℕ, zero, suc, ◌+◌, ◌-◌, ◌<◌, ◌≤◌}
+use Prim.Native.Nat.{ℕ, zero, suc, ◌+◌, ◌-◌, ◌≤◌}
 use native.Mathlib.Omega.{arith}
 use lib.ListN.{length}
-use lib.Dec.{T, eqb, leb, leb→le, not_T, eqb-suc-zero}
+use lib.Dec.{T, eqb, leb, eqb-suc-zero}
 use lib.Ieee.{Float}
-use lib.Ieee.Bits.{is_false}
+use lib.Ieee.Bits.{is_true}
 use lib.Ieee.Scale.{finite}
-use borrow.Author.Tests.{not-false}
+use borrow.Author.Tests.{lt-leb, not-false}
 use Rattle.single.specs.Single.{num}
 use Rattle.limits.specs.Refusals.{first_refusal}
 use Rattle.table.specs.Table.{gain_at, cleared, is_table}
@@ -28,13 +28,6 @@ passed false n r e = (refl, e)
 pub none_found : (n r : ℕ) → cond (not (eqb n 0)) n r ≡ 0 → (n ≡ 0) × (r ≡ 0)
 none_found zero r e = (refl, e)
 none_found (suc n) r e = let z : suc n ≡ 0 = rw (eqb-suc-zero n) at e in let f : ⊥ = omega arith in absurd f
-
-not-not : (b : Bool) → T b → not b ≡ false
-not-not true t = refl
-not-not false t = absurd t
-
-pub below_limit : (limit n : ℕ) → n < limit → leb limit n ≡ false
-below_limit limit n h = is_false (leb limit n) (not_T (leb limit n) (λ t. let l : limit ≤ n = leb→le limit n t in let z : ⊥ = omega arith in z))
 
 -- a deck on which n more entries are judged by their own tests alone
 pub record Fit (limit : ℕ) (d : Deck) (n : ℕ) : Type 0 where
@@ -58,7 +51,7 @@ module _ (A : Antenna) (L : Laws A) (limit : ℕ) where
   pub verdict_own : (d : Deck) (n : ℕ) (e : Entry A) → Fit limit d (suc n) → verdict_on A limit d e ≡ first_refusal (own_tests A e d.height)
   unfolding verdict_on first_refusal
   verdict_own d n e f =
-      rw (below_limit limit (d.accepted + d.refused) (omega (arith, f.room)), not-not (finite d.height) f.height) refl
+      rw (lt-leb limit (d.accepted + d.refused) (omega (arith, f.room)), is_true (finite d.height) f.height) refl
 
   -- ---- an accepted entry is a card that passes
   own_passes : (c : A.Card) (t : List Float) (h : Float) → first_refusal (own_tests A (record { line = card c; table = t }) h) ≡ 0 → Passes A c h
@@ -90,7 +83,8 @@ module _ (A : Antenna) (L : Laws A) (limit : ℕ) where
   card_refusal_same : (c : A.Card) (h h' : Float) → A.input_refusal c ≡ 0 → card_refusal A c h ≡ card_refusal A c h'
   card_refusal_same c h h' p = rows_refusal_same A L c h h' (rows_of A c) p (omega (arith, L.range c p))
 
-  own_same_line : (l : Line A) (t : List Float) (h h' : Float) → first_refusal (own_tests A (record { line = l; table = t }) h) ≡ first_refusal (own_tests A (record { line = l; table = t }) h')
+  own_same_line : (l : Line A) (t : List Float) (h h' : Float)
+      → first_refusal (own_tests A (record { line = l; table = t }) h) ≡ first_refusal (own_tests A (record { line = l; table = t }) h')
   unfolding first_refusal
   own_same_line malformed t h h' = refl
   own_same_line (card c) t h h' = ap (λ (v : ℕ). cond (not (is_table t)) 7 v) (go (A.input_refusal c) (card_refusal_same c h h'))
@@ -132,7 +126,8 @@ module _ (A : Antenna) (L : Laws A) (limit : ℕ) where
   cond_le true n = omega arith
   cond_le false n = omega arith
 
-  room_after : (e : Entry A) (d : Deck) (n v : ℕ) → d.accepted + d.refused + suc n ≤ limit → (deck_by A limit e d v).accepted + (deck_by A limit e d v).refused + n ≤ limit
+  room_after : (e : Entry A) (d : Deck) (n v : ℕ) → d.accepted + d.refused + suc n ≤ limit
+      → (deck_by A limit e d v).accepted + (deck_by A limit e d v).refused + n ≤ limit
   unfolding deck_by refused_deck
   room_after e d n zero h = omega arith
   room_after e d n (suc v) h = omega (arith, cond_le (eqb (suc v) 10) d.refused)
@@ -149,13 +144,15 @@ module _ (A : Antenna) (L : Laws A) (limit : ℕ) where
   card_table_length : (c : A.Card) (h : Float) → length (card_table A c h) ≡ 2760
   card_table_length c h = rows_length A L c h (rows_of A c) cleared ∙ cleared_length
 
-  card_cells : (c : A.Card) (h h' : Float) → Passes A c h → (i : ℕ) → (T (carries_height (A.type_of c)) × (i ≡ gain_at (A.first c) 0) → ⊥) → cell (card_table A c h) i ≡ cell (card_table A c h') i
+  card_cells : (c : A.Card) (h h' : Float) → Passes A c h → (i : ℕ) → (T (carries_height (A.type_of c)) × (i ≡ gain_at (A.first c) 0) → ⊥)
+      → cell (card_table A c h) i ≡ cell (card_table A c h') i
   card_cells c h h' p i other = at_rows (rows_of A c) s.0 p.calls
     where
       s : (rows_of A c ≡ suc (A.last c - A.first c)) × (A.first c + (A.last c - A.first c) ≡ A.last c)
       s = some_rows c p.input
 
-      go : rows_refusal A c h (suc (A.last c - A.first c)) ≡ 0 → (b : Bool) → (T (not b) → T (not (carries_height (A.type_of c)))) → (T b × (i ≡ gain_at (A.first c) 0) → ⊥)
+      go : rows_refusal A c h (suc (A.last c - A.first c)) ≡ 0 → (b : Bool) → (T (not b) → T (not (carries_height (A.type_of c))))
+          → (T b × (i ≡ gain_at (A.first c) 0) → ⊥)
           → cell (rows_in A c h (suc (A.last c - A.first c)) cleared) i ≡ cell (rows_in A c h' (suc (A.last c - A.first c)) cleared) i
       go e true steady o =
           agree_elsewhere A L (rows_in A c h (suc (A.last c - A.first c)) cleared) (rows_in A c h' (suc (A.last c - A.first c)) cleared) (gain_at (A.first c) 0) i (num 0 1)
