@@ -7,14 +7,10 @@ unfolding z_of interlaced_of round of_bits
 returns c = rw (
   ← c.elfac-factor.ensures,
   ← c.y_of-y.ensures,
-  ← c.sin_cos-of_y.ensures.0,
-  ← c.sin_cos-of_y.ensures.1,
-  ← c.sin_cos-of_z.ensures.0,
-  ← c.sin_cos-of_z.ensures.1,
-  ← c.sin_cos-of_yh.ensures.0,
-  ← c.sin_cos-of_yh.ensures.1,
-  ← c.sin_cos-of_yv.ensures.0,
-  ← c.sin_cos-of_yv.ensures.1,
+  ← c.sin_cos-of_y.ensures.2,
+  ← c.sin_cos-of_z.ensures.2,
+  ← c.sin_cos-of_yh.ensures.2,
+  ← c.sin_cos-of_yv.ensures.2,
   ← c.hk_of-hk.ensures,
   ← c.hk_of-vk.ensures,
 )
