@@ -11,7 +11,7 @@ use angles::{Azimuth, Elevation};
 use reflection::Soil;
 
 // An elevation `delta` with its sine and cosine; the threshold is the model's. No reflection is
-// computed near the vertical.
+// computed near the vertical. `delta` stays beside them: no other pattern takes the angle itself.
 #[tactic(auto, unfolding(crate::specs::Cell::cell_of))]
 pub fn curtain_cell(
     card: CurtainCard,

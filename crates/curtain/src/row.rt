@@ -16,7 +16,7 @@ pub struct CurtainRow {
     pub dz: f32,
 }
 
-// A spacing not above 0 is in wavelengths.
+// A spacing not above 0 is in wavelengths. Not slopes' `ht_of`, which takes 0 as metres.
 #[tactic(auto, unfolding(crate::specs::Row::spacing_of, crate::proofs::Literals::round, crate::proofs::Literals::of_bits))]
 fn spacing(v: f32, wave: f32) -> f32
     ensures { result ≡ spacing_of v wave }

@@ -110,6 +110,6 @@ pub floor_rule : (kind : Kind) (rain eff sok : Float) → is_kind kind 2 ≡ fal
 floor_rule kind rain eff sok e = rw (floored_others kind rain eff sok e) (by (le (rain ⊞ (eff ⊞ sok)) floor) refl)
   where
     by : (b : Bool) → le (rain ⊞ (eff ⊞ sok)) floor ≡ b
-        → (cond b (floor ⊞ eff) (rain ⊞ (eff ⊞ sok)) ≡ nan) ⊎ (T (lt floor (cond b (floor ⊞ eff) (rain ⊞ (eff ⊞ sok)))) ⊎ (cond b (floor ⊞ eff) (rain ⊞ (eff ⊞ sok)) ≡ floor ⊞ eff))
+        → let gain = cond b (floor ⊞ eff) (rain ⊞ (eff ⊞ sok)) in (gain ≡ nan) ⊎ (T (lt floor gain) ⊎ (gain ≡ floor ⊞ eff))
     by true t = inr (inr refl)
     by false t = elim (above_floor (rain ⊞ (eff ⊞ sok)) (subst (λ (x : Bool). T (not x)) (sym t) tt)) [ inl n ↦ inl n | inr a ↦ inr (inl a) ]

@@ -7,7 +7,8 @@ use Rattle.angles.specs.declared.angles.Elevation.{Elevation}
 use Rattle.angles.specs.Angles.{radians_of}
 use Rattle.rhombics.specs.declared.legs.Legs.{Legs}
 
--- the card's angle and off-azimuth, fac and hwave. sisum and sidif are the sines of rhi + reta and rhi - reta (types 7 and 9 take reta - rhi). Type 10 writes rhi + reta the other way round, which is the same sum: proofs/Sum.antt
+-- the card's angle and off-azimuth, fac and hwave. sisum and sidif are the sines of rhi + reta and rhi - reta (types 7 and 9 take reta - rhi).
+-- Type 10 writes rhi + reta the other way round, which is the same sum: reflection/proofs/Sum.antt
 unfoldable pub legs_of : Float → Azimuth → Float → Float → Legs
 legs_of phi azimuth fac hwave =
     let rhi = radians_of phi in

@@ -7,7 +7,7 @@ use elementary::SineCosine;
 use lengths::{LegInWaves, PhaseInWaves};
 
 // `g` and `pp` are the slope's sine and cosine, `fac2` and `hwave2` twice the phases of the leg
-// and of the height.
+// and of the height. Each is taken alone, so that a struct for each angle is no plainer.
 #[derive(Clone, Copy)]
 pub struct Slope {
     pub g: f32,
