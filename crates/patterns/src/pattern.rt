@@ -4,7 +4,7 @@ ghost use Rattle.single.specs.Answer.{IsAnswer};
 ghost use Rattle.integrals.specs.Settled.{unsettled_number, settled_value};
 ghost use Rattle.patterns.specs.Pattern.{pattern_settles};
 ghost use Rattle.patterns.specs.declared.pattern.Pattern.TheVariants as P;
-ghost use Rattle.patterns.specs.Pattern.{settled_at, dipole_of, monopole_for, inverted_l_of, pattern_of, power_of};
+ghost use Rattle.patterns.specs.Pattern.{settled_at, dipole_of, monopole_for, inverted_l_of, sloping_of, pattern_of, power_of};
 
 use angles::{Azimuth, Elevation};
 use antennas::Antenna;
@@ -13,7 +13,7 @@ use dipoles::Dipole;
 use integrals::{Settled, Turns};
 use interlaced::Offset;
 use inverted_l::InvertedL;
-use lengths::{HEIGHT_TURN, Length};
+use lengths::{HEIGHT_TURN, LegInWaves, Length, PhaseInWaves};
 use parameters::Kind;
 use reflection::Ground;
 use rhombics::Legs;
@@ -35,6 +35,7 @@ pub enum Pattern {
 }
 
 // A pattern without integrals.
+#[tactic(auto, unfolding(crate::specs::Pattern::settled_at))]
 fn settled(pattern: Pattern) -> Option<Settled<Pattern>>
     ensures { result ≡ settled_at pattern }
 {
@@ -44,6 +45,7 @@ fn settled(pattern: Pattern) -> Option<Settled<Pattern>>
     })
 }
 
+#[tactic(auto, unfolding(crate::specs::Pattern::dipole_of))]
 fn dipole_of(fac: f32, hwave: f32) -> Option<Settled<Pattern>>
     ensures { result ≡ dipole_of fac hwave }
 {
@@ -51,6 +53,7 @@ fn dipole_of(fac: f32, hwave: f32) -> Option<Settled<Pattern>>
     Some(row.with(Pattern::Wire(row.value)))
 }
 
+#[tactic(auto, unfolding(crate::specs::Pattern::monopole_for))]
 fn monopole_of(leg: Length, wave: f32) -> Option<Settled<Pattern>>
     ensures { result ≡ monopole_for leg wave }
 {
@@ -58,11 +61,26 @@ fn monopole_of(leg: Length, wave: f32) -> Option<Settled<Pattern>>
     Some(row.with(Pattern::Vertical(row.value)))
 }
 
+#[tactic(auto, unfolding(crate::specs::Pattern::inverted_l_of))]
 fn inverted_l_of(fac: f32, hwave: f32) -> Option<Settled<Pattern>>
     ensures { result ≡ inverted_l_of fac hwave }
 {
     let row = inverted_l::inverted_l_row(fac, hwave)?;
     Some(row.with(Pattern::Inverted(row.value)))
+}
+
+// The legs of a sloping antenna, in wavelengths.
+fn sloping_of(antenna: Antenna, wave: f32, leg: LegInWaves, height: PhaseInWaves) -> SlopingLegs
+    ensures { result ≡ sloping_of antenna wave leg height }
+{
+    SlopingLegs {
+        aex1: antenna.params.aex[0],
+        wave,
+        leg,
+        height,
+        phi: antenna.params.and,
+        azimuth: antenna.azimuth,
+    }
 }
 
 // With the most turns of an integral's series.
@@ -83,14 +101,7 @@ pub fn pattern_of(antenna: Antenna, wave: f32) -> Option<Settled<Pattern>>
     let above = lengths::phase_in_waves(HEIGHT_TURN, height, wave);
     let fac = along.fac;
     let hwave = above.phase;
-    let sloping = SlopingLegs {
-        aex1: aex[0],
-        wave,
-        leg: along,
-        height: above,
-        phi,
-        azimuth,
-    };
+    let sloping = sloping_of(antenna, wave, along, above);
     match kind {
         Kind::Rhombic => settled(Pattern::Rhombic(rhombics::legs_of(phi, azimuth, fac, hwave))),
         Kind::InterlacedRhombic => settled(Pattern::Interlaced(
@@ -112,6 +123,7 @@ pub fn pattern_of(antenna: Antenna, wave: f32) -> Option<Settled<Pattern>>
 
 // `rain` before it is taken to dB. The curtain's is in dB from the start: the crate
 // `cells` takes it from `curtain`.
+#[tactic(auto, unfolding(crate::specs::Pattern::power_of, parameters::proofs::Literals::round, parameters::proofs::Literals::of_bits, parameters::proofs::Literals::neg))]
 pub fn power_of(pattern: Pattern, azimuth: Azimuth, elevation: Elevation, earth: Ground) -> f32
     ensures { result ≡ power_of pattern azimuth elevation earth }
 {

@@ -5,7 +5,7 @@ use lib.Dec.{T}
 use lib.Ieee.{Float, binary32, fits, le, add, neg, round}
 use Rattle.single.specs.Single.{◌⊞◌, num}
 use Rattle.single.proofs.Floor.{lowered_plus}
-use Rattle.rhombics.proofs.Sum.{⊞_comm}
+use Rattle.reflection.proofs.Sum.{⊞_comm}
 use Rattle.parameters.specs.declared.kind.Kind.TheVariants as K
 use Rattle.curtain.specs.Gain.{rain_of, sok_of}
 use Rattle.curtain.specs.declared.gain.CurtainGain.TheVariants.{Floor}

@@ -30,37 +30,43 @@ module _ (c : After-phase_in_waves-above) where
       type_answers antenna wave c.leg_in_waves-along.result c.phase_in_waves-above.result r k c.leg_in_waves-along.ensures c.phase_in_waves-above.ensures
 
 pub returns-in-Rhombic : goal.returns-in-Rhombic
-returns-in-Rhombic c = answered c.before.before.before _ c.in-Rhombic.is (rw (← c.legs_of.ensures) c.settled.ensures)
+returns-in-Rhombic c =
+    answered (goal.at.returns-in-Rhombic c).After-phase_in_waves-above _ c.in-Rhombic.is (rw (← c.legs_of.ensures) c.settled.ensures)
 
 pub returns-in-InterlacedRhombic : goal.returns-in-InterlacedRhombic
 returns-in-InterlacedRhombic c =
-    answered c.before.before.before.before _ c.in-InterlacedRhombic.is
+    answered (goal.at.returns-in-InterlacedRhombic c).After-phase_in_waves-above _ c.in-InterlacedRhombic.is
     (rw (← c.legs_of-in-InterlacedRhombic.ensures, ← c.offset_of.ensures) c.settled-in-InterlacedRhombic.ensures)
 
 pub returns-in-InvertedL : goal.returns-in-InvertedL
-returns-in-InvertedL c = answered c.before.before _ c.in-InvertedL.is c.inverted_l_of.ensures
+returns-in-InvertedL c = answered (goal.at.returns-in-InvertedL c).After-phase_in_waves-above _ c.in-InvertedL.is c.inverted_l_of.ensures
 
 pub returns-in-SlopingVee : goal.returns-in-SlopingVee
-returns-in-SlopingVee c = answered c.before.before.before _ c.in-SlopingVee.is (rw (← c.vee_slope.ensures) c.settled-in-SlopingVee.ensures)
+returns-in-SlopingVee c =
+    answered (goal.at.returns-in-SlopingVee c).After-phase_in_waves-above _ c.in-SlopingVee.is
+    (rw (← c.sloping_of-sloping.ensures, ← c.vee_slope.ensures) c.settled-in-SlopingVee.ensures)
 
 pub returns-in-SlopingRhombic : goal.returns-in-SlopingRhombic
-returns-in-SlopingRhombic c = answered c.before.before.before _ c.in-SlopingRhombic.is (rw (← c.rhombic_slope.ensures) c.settled-in-SlopingRhombic.ensures)
+returns-in-SlopingRhombic c =
+    answered (goal.at.returns-in-SlopingRhombic c).After-phase_in_waves-above _ c.in-SlopingRhombic.is
+    (rw (← c.sloping_of-sloping.ensures, ← c.rhombic_slope.ensures) c.settled-in-SlopingRhombic.ensures)
 
 pub returns-in-Curtain : goal.returns-in-Curtain
 returns-in-Curtain c =
-    answered c.before.before.before.before _ c.in-Curtain.is (rw (← c.curtain_card.ensures, ← c.curtain_row.ensures) c.settled-in-Curtain.ensures)
+    answered (goal.at.returns-in-Curtain c).After-phase_in_waves-above _ c.in-Curtain.is
+    (rw (← c.curtain_card.ensures, ← c.curtain_row.ensures) c.settled-in-Curtain.ensures)
 
 pub returns-in-Dipole : goal.returns-in-Dipole
 returns-in-Dipole c = elim c.in-Dipole.is [
-  | inl e ↦ answered c.before.before _ e c.dipole_of.ensures
-  | inr e ↦ answered c.before.before _ e c.dipole_of.ensures
+  | inl e ↦ answered (goal.at.returns-in-Dipole c).After-phase_in_waves-above _ e c.dipole_of.ensures
+  | inr e ↦ answered (goal.at.returns-in-Dipole c).After-phase_in_waves-above _ e c.dipole_of.ensures
 ]
 
 pub returns-in-Monopole : goal.returns-in-Monopole
 returns-in-Monopole c = elim c.in-Monopole.is [
-  | inl e ↦ answered c.before.before _ e c.monopole_of.ensures
-  | inr e ↦ answered c.before.before _ e c.monopole_of.ensures
+  | inl e ↦ answered (goal.at.returns-in-Monopole c).After-phase_in_waves-above _ e c.monopole_of.ensures
+  | inr e ↦ answered (goal.at.returns-in-Monopole c).After-phase_in_waves-above _ e c.monopole_of.ensures
 ]
 
 pub returns-in-Other : goal.returns-in-Other
-returns-in-Other c = answered c.before.before _ c.in-Other.is c.settled-in-Other.ensures
+returns-in-Other c = answered (goal.at.returns-in-Other c).After-phase_in_waves-above _ c.in-Other.is c.settled-in-Other.ensures

@@ -6,7 +6,11 @@ use Rattle.rows.proofs.row.row_of.Goals as goal
 
 pub returns-in_err-pattern : goal.returns-in_err-pattern
 unfolding row_of
-returns-in_err-pattern c = row_answers c.args.antenna c.args.fmc _ (rw (← c.wave_of-wave.ensures, ← c.pattern_of.ensures.0, c.in_err-pattern.was) c.from_residual.ensures)
+returns-in_err-pattern c = row_answers c.args.antenna c.args.fmc _ (rw (
+  ← c.wave_of-wave.ensures,
+  ← c.pattern_of.ensures.0,
+  c.in_err-pattern.was,
+) c.from_residual.ensures)
 
 pub returns : goal.returns
 unfolding row_of
