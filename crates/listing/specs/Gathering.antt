@@ -10,7 +10,7 @@ abbrev pub used_of : List ℕ → Option ℕ → ℕ
 used_of piece (Some end) = end
 used_of piece None = length piece
 
--- the buffer was `before`, of which p was held, and is `line`
+-- the buffer was `before`, of which p was held, or all where p says more, and is `line`
 pub record GatherDone (p : ℕ) (before piece line : List ℕ) (r : G.Gathered) : Type 0 where
   pub result : gathered (take p before) piece ≡ record { whole = is_some r.end; held = take r.held line; rest = drop (used_of piece r.end) piece }
   pub low : r.held ≤ most_held

@@ -25,10 +25,6 @@ state_in s line table = record { deck = state_of s.deck; listed = s.listed; held
 abbrev pub start_of : S.Session
 start_of = record { deck = deck_of fresh; listed = 0; held = 0 }
 
--- a session that was made otherwise may say that it holds more than the buffer
-unfoldable pub held_in : ℕ → ℕ
-held_in n = cond (ltb n most_held) n most_held
-
 -- ---- a line is gathered
 -- one more byte of a line
 unfoldable pub grown : List ℕ → ℕ → List ℕ

@@ -1,7 +1,6 @@
 // A line run on the deck, and its text.
-ghost use Rattle.std.specs.Prelude.{◌≡◌, ◌+◌, ◌≤◌, length};
+ghost use Rattle.std.specs.Prelude.{◌≡◌, ◌+◌, ◌≤◌};
 ghost use Rattle.refusals.specs.Refusals.{outcome_number};
-ghost use Rattle.table.specs.Table.{table_length};
 ghost use Rattle.independence.specs.Filling.{rows_of};
 ghost use Rattle.cards.specs.Fields.{fields_refusal};
 ghost use Rattle.deck.specs.Antenna.{the_antenna};
@@ -16,10 +15,12 @@ use crate::session::Session;
 use crate::writing::Writer;
 use cards::Fields;
 use deck::{CardAnswer, Deck};
+use table::Table;
 
 // From here on a place prints as stars.
 const MOST_LISTED: u32 = 10_000_000;
 
+// vectors counts the same way in u64: no crate below both to share one comparison.
 fn count(listed: u32) -> u32
     ensures { result ≡ counted listed }
 {
@@ -30,8 +31,7 @@ fn count(listed: u32) -> u32
     }
 }
 
-fn run_line(deck: Deck, line: Option<Fields>, table: &mut [f32]) -> CardAnswer
-    requires { length table.old ≡ table_length }
+fn run_line(deck: Deck, line: Option<Fields>, table: &mut Table) -> CardAnswer
     ensures { LineRun (state_of deck) line table.new (outcome_number result.verdict) (state_of result.deck) }
 {
     match line {
@@ -47,8 +47,8 @@ fn card_type(line: Option<Fields>) -> i32
 }
 
 // Of an accepted card.
-fn rows(fields: Fields, table: &[f32], to: &mut Writer)
-    requires { (fields_refusal fields ≡ 0) × (length table.now ≡ table_length) × HasRoom to.old 540 }
+fn rows(fields: Fields, table: &Table, to: &mut Writer)
+    requires { (fields_refusal fields ≡ 0) × HasRoom to.old 540 }
     ensures written { Written to.old (card_rows fields table.now) to.new }
     ensures upper_bound { to.new.at ≤ to.old.at + 540 }
 {
@@ -60,10 +60,10 @@ fn rows(fields: Fields, table: &[f32], to: &mut Writer)
 pub(crate) fn list_line(
     session: Session,
     line: &[u8],
-    table: &mut [f32],
+    table: &mut Table,
     to: &mut Writer,
 ) -> Session
-    requires { (length table.old ≡ table_length) × HasRoom to.old 554 }
+    requires { HasRoom to.old 554 }
     ensures { LineListed session line.now table.old table.new to.old to.new result }
 {
     let listed = count(session.listed);

@@ -1,11 +1,14 @@
 // The bytes of a line, gathered in a buffer of 120.
-ghost use Rattle.std.specs.Prelude.{◌≡◌, ◌≤◌, length, take, drop};
+ghost use Rattle.std.specs.Prelude.{◌≡◌, ◌≤◌, take, drop, min};
 ghost use Rattle.listing.specs.Sizes.{most_held};
 ghost use Rattle.listing.specs.Session.{grown};
 ghost use Rattle.listing.specs.Gathering.{GatherDone};
 
 // A line of more than 119 bytes is malformed, so no more than these are held.
 pub const MOST_HELD: usize = 120;
+
+// Lent by the caller: no memory of its own. How many of its first bytes are held is the session's.
+pub(crate) type LineBuffer = [u8; MOST_HELD];
 
 // `end`: where the piece's first line ends, after its line feed, if it ends in the piece.
 #[derive(Clone, Copy)]
@@ -14,9 +17,15 @@ pub(crate) struct Gathered {
     pub end: Option<usize>,
 }
 
-// The buffer is lent by the caller, and what is held of it is the session's: no memory of its own.
-fn push(line: &mut [u8], held: usize, b: u8) -> usize
-    requires { (length line.old ≡ most_held) × (held ≤ most_held) }
+// A session that was made otherwise may say that it holds more than there is.
+pub(crate) fn held_in(held: usize) -> usize
+    ensures { result ≡ min held most_held }
+{
+    held.min(MOST_HELD)
+}
+
+fn push(line: &mut LineBuffer, held: usize, b: u8) -> usize
+    requires { held ≤ most_held }
     ensures { (take result line.new ≡ grown (take held line.old) b) × (result ≤ most_held) × (held ≤ result)
         × (drop result line.new ≡ drop result line.old) }
 {
@@ -28,11 +37,10 @@ fn push(line: &mut [u8], held: usize, b: u8) -> usize
 }
 
 // Bytes of the piece up to a line feed or its end.
-pub(crate) fn gather(line: &mut [u8], held: usize, piece: &[u8]) -> Gathered
-    requires { (length line.old ≡ most_held) × (held ≤ most_held) }
+pub(crate) fn gather(line: &mut LineBuffer, held: usize, piece: &[u8]) -> Gathered
     ensures { GatherDone held line.old piece.now line.new result }
 {
-    let mut len = held;
+    let mut len = held_in(held);
     for i in 0..piece.len() {
         if piece[i] == b'\n' {
             return Gathered {

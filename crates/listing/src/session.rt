@@ -1,12 +1,14 @@
 // The listing of an input that comes in pieces of any size.
-ghost use Rattle.std.specs.Prelude.{◌≡◌};
-ghost use Rattle.listing.specs.Session.{held_in, is_ready, start_of};
+ghost use Rattle.std.specs.Prelude.{◌≡◌, ◌+◌, ◌≤◌, ◌↔◌, length, IsTrue};
+ghost use Rattle.listing.specs.Sizes.{most_text};
+ghost use Rattle.listing.specs.Session.{start_of};
 ghost use Rattle.listing.specs.Steps.{StepDone, FinishDone};
 
 use crate::card::list_line;
-use crate::gathering::{Gathered, MOST_HELD, gather};
+use crate::gathering::{Gathered, MOST_HELD, gather, held_in};
 use crate::writing::Writer;
 use deck::Deck;
+use table::TABLE_LENGTH;
 
 // 14 bytes of a card's first line, 18 of each of its 30 rows, 15 of the counts.
 pub const ROOM: usize = 569;
@@ -37,18 +39,10 @@ pub fn start() -> Session
     }
 }
 
-// Whether the buffers are of their lengths, and `out` has room from `at` on.
-fn is_ready(line: &[u8], table: &[f32], out: &[u8], at: usize) -> bool
-    ensures { result ≡ is_ready line.now table.now out.now at }
+fn has_room(out: &[u8], at: usize) -> bool
+    ensures { IsTrue result ↔ (at + most_text ≤ length out.now) }
 {
-    line.len() == MOST_HELD && table::is_table(table) && out.len() >= ROOM && at <= out.len() - ROOM
-}
-
-// A session that was made otherwise may say that it holds more than there is.
-fn held_in(session: Session) -> usize
-    ensures { result ≡ held_in session.held }
-{
-    session.held.min(MOST_HELD)
+    out.len() >= ROOM && at <= out.len() - ROOM
 }
 
 // At most one line of the piece is taken, run and written. Nothing is where the buffers
@@ -64,14 +58,21 @@ pub fn step(
     ensures { StepDone session line.old piece.now table.old out.old at
         line.new table.new out.new result }
 {
-    if !is_ready(line, table, out, at) {
-        return Stepped {
-            session,
-            used: 0,
-            at,
-        };
+    let idle = Stepped {
+        session,
+        used: 0,
+        at,
+    };
+    if !has_room(out, at) {
+        return idle;
     }
-    let Gathered { held, end } = gather(line, held_in(session), piece);
+    let Some(buffer) = line.as_mut_array::<MOST_HELD>() else {
+        return idle;
+    };
+    let Some(cells) = table.as_mut_array::<TABLE_LENGTH>() else {
+        return idle;
+    };
+    let Gathered { held, end } = gather(buffer, session.held, piece);
     let Some(used) = end else {
         return Stepped {
             session: Session { held, ..session },
@@ -80,7 +81,7 @@ pub fn step(
         };
     };
     let mut to = Writer { out, at };
-    let next = list_line(session, &line[..held], table, &mut to);
+    let next = list_line(session, &line[..held], cells, &mut to);
     Stepped {
         session: next,
         used,
@@ -93,16 +94,22 @@ pub fn step(
 pub fn finish(session: Session, line: &[u8], table: &mut [f32], out: &mut [u8], at: usize) -> usize
     ensures { FinishDone session line.now table.old out.old at table.new out.new result }
 {
-    if !is_ready(line, table, out, at) {
+    if !has_room(out, at) {
         return at;
     }
-    let held = held_in(session);
+    let Some(buffer) = line.as_array::<MOST_HELD>() else {
+        return at;
+    };
+    let Some(cells) = table.as_mut_array::<TABLE_LENGTH>() else {
+        return at;
+    };
+    let held = held_in(session.held);
     let mut to = Writer { out, at };
     if held == 0 {
         to.counts(session.deck.accepted, session.deck.refused);
         return to.at;
     }
-    let last = list_line(session, &line[..held], table, &mut to);
+    let last = list_line(session, &buffer[..held], cells, &mut to);
     to.counts(last.deck.accepted, last.deck.refused);
     to.at
 }

@@ -1,12 +1,12 @@
 // The printed lines, each written into a buffer.
-ghost use Rattle.std.specs.Prelude.{◌≡◌, ◌+◌, ◌≤◌, length};
-ghost use Rattle.table.specs.Table.{row_count, table_length};
+ghost use Rattle.std.specs.Prelude.{◌≡◌, ◌+◌, ◌≤◌};
+ghost use Rattle.table.specs.Table.{row_count};
 ghost use Rattle.output.specs.Field.{integer_field};
 ghost use Rattle.output.specs.Hundredths.{hundredths_field};
 ghost use Rattle.listing.specs.Written.{HasRoom, Written};
 ghost use Rattle.listing.specs.Text.{line_feed, heading_text, row_text, rows_text, counts_text};
 
-use table::{COLUMNS, GAINS};
+use table::{COLUMNS, GAINS, Table};
 
 // The next byte is written at `at`.
 #[derive(Drop)]
@@ -53,8 +53,8 @@ impl Writer<'_> {
         self.line_feed();
     }
 
-    fn row(&mut self, table: &[f32], m: usize)
-        requires { (length table.now ≡ table_length) × (1 ≤ m) × (m ≤ row_count) × HasRoom self.old 18 }
+    fn row(&mut self, table: &Table, m: usize)
+        requires { (1 ≤ m) × (m ≤ row_count) × HasRoom self.old 18 }
         ensures { Written self.old (row_text table.now m) self.new }
     {
         let efficiency = table[GAINS + (m - 1)];
@@ -66,8 +66,8 @@ impl Writer<'_> {
     }
 
     // From `first` MHz on.
-    pub(crate) fn rows(&mut self, table: &[f32], first: usize, count: usize)
-        requires { (length table.now ≡ table_length) × (1 ≤ first) × (first + count ≤ 31) × HasRoom self.old 540 }
+    pub(crate) fn rows(&mut self, table: &Table, first: usize, count: usize)
+        requires { (1 ≤ first) × (first + count ≤ 31) × HasRoom self.old 540 }
         ensures { Written self.old (rows_text table.now first count) self.new }
     {
         for m in first..first + count {

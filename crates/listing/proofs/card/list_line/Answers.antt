@@ -12,7 +12,7 @@ use Rattle.listing.proofs.card.list_line.Goals as goal
 use Rattle.listing.proofs.card.list_line.Goals.{In_default, in_default-via-in-None-1, in_default-via-in-Some+else-is_ok}
 
 pub rows-requires : goal.rows-requires
-rows-requires c = (accepted _ _ _ _ _ _ c.run_line-verdict.ensures c.in-Some.is (accepted_number _ (sym c.is_ok.ensures.value ∙ c.if-is_ok.true)), search rules, space c.heading.ensures 540 (heading_length _ _ _) c.requires.1 (lit≤ tt))
+rows-requires c = (accepted _ _ _ _ _ _ c.run_line-verdict.ensures c.in-Some.is (accepted_number _ (sym c.is_ok.ensures.value ∙ c.if-is_ok.true)), space c.heading.ensures 540 (heading_length _ _ _) c.requires (lit≤ tt))
 
 pub returns-then-is_ok : goal.returns-then-is_ok
 returns-then-is_ok c =
@@ -22,7 +22,7 @@ returns-then-is_ok c =
 -- after the heading, no rows
 without_rows : (c : In_default) → Written c.heading.new.self (rows_by (line_in c.read_line-card.result) c.run_line-verdict.new.table (outcome_number c.run_line-verdict.result.verdict)) c.heading.new.self
 without_rows c =
-    let h : HasRoom c.heading.new.self 540 = space c.heading.ensures 540 (heading_length _ _ _) c.requires.1 (lit≤ tt) in
+    let h : HasRoom c.heading.new.self 540 = space c.heading.ensures 540 (heading_length _ _ _) c.requires (lit≤ tt) in
     elim c.in_default.branch [
       | in_default-via-in-None-1 w ↦ malformed_rows _ _ _ _ (search rules) (omega arith)
       | in_default-via-in-Some+else-is_ok w ↦ refused_rows _ _ _ _ (refused_number _ (sym w.is_ok.ensures.value ∙ w.if-is_ok.false)) (omega arith)

@@ -22,7 +22,7 @@ overflow_add-count c = let r = rows_in c.args.fields c.requires.0 in omega (arit
 
 pub rows-requires : goal.rows-requires
 unfolding card_of
-rows-requires c = let r = rows_in c.args.fields c.requires.0 in (c.requires.1, r.low, omega (arith, r.high, r.order), c.requires.2)
+rows-requires c = let r = rows_in c.args.fields c.requires.0 in (r.low, omega (arith, r.high, r.order), c.requires.1)
 
 pub returns : goal.returns
 unfolding card_of

@@ -1,39 +1,32 @@
-use Rattle.std.proofs.Common.{◌≡◌, refl, sym, length, length-take-le, arith, rules}
+use Rattle.std.proofs.Common.{refl, rules}
+use Rattle.std.proofs.lemmas.Bool.{iff_false}
+use Rattle.std.proofs.lemmas.Option.{MatchOption-at_none}
 use Rattle.listing.specs.Ready.{Ready}
-use Rattle.listing.proofs.Ready.{tested}
-use Rattle.listing.proofs.Sessions.{held_low, step_idle, step_part, step_whole}
+use Rattle.listing.proofs.Sessions.{step_idle, step_part, step_whole}
 use Rattle.listing.proofs.session.step.Goals as goal
-use Rattle.listing.proofs.session.step.Goals.{Else-not-is_ready}
+use Rattle.listing.proofs.session.step.Goals.{In-Some-as_mut_array}
 
-pub returns-then-not-is_ready : goal.returns-then-not-is_ready
-returns-then-not-is_ready c = step_idle _ _ _ _ _ _ c.is_ready.ensures _ c.if-not-is_ready.true
-
--- past the first test
-ready : (c : Else-not-is_ready) → let a = c.args in Ready a.line.now a.table.now a.out.now a.at
-ready c = tested _ _ _ _ _ c.is_ready.ensures c.if-not-is_ready.false
-
-pub gather-held-requires : goal.gather-held-requires
-gather-held-requires c = ((ready (goal.at.gather-held-requires c).Else-not-is_ready).line_length, omega (arith, c.held_in.ensures, held_low c.args.session.held))
+pub returns-then-not-has_room : goal.returns-then-not-has_room
+returns-then-not-has_room c = step_idle _ _ _ _ _ _ (λ r. iff_false c.has_room.ensures c.if-not-has_room.true r.room)
 
 pub returns-in_default : goal.returns-in_default
-returns-in_default c = step_part _ _ _ _ _ _ c.is_ready.ensures _ _ c.gather-held.result c.if-not-is_ready.false _ c.held_in.ensures c.gather-held.ensures (search rules) c.in_default.is
+returns-in_default c = step_idle _ _ _ _ _ _ (λ r. MatchOption-at_none _ _ c.in_default.is c.as_mut_array.ensures.cases r.line_length)
 
-pub slice_bounds-list_line-end : goal.slice_bounds-list_line-end
-slice_bounds-list_line-end c =
-    let r = ready (goal.at.slice_bounds-list_line-end c).Else-not-is_ready in
-    let l : length c.gather-held.new.line ≡ length c.args.line.now = search rules in
-    omega (arith, c.gather-held.ensures.low, l, r.line_length)
+pub returns-in_default-as_mut_array : goal.returns-in_default-as_mut_array
+returns-in_default-as_mut_array c =
+    rw c.in-Some.ensures.cases.same
+    (step_idle _ _ _ _ _ _ (λ r. MatchOption-at_none _ _ c.in_default-as_mut_array.is c.as_mut_array-2.ensures.cases r.table_len))
 
-pub slice_bounds-list_line-end-2 : goal.slice_bounds-list_line-end-2
-slice_bounds-list_line-end-2 c =
-    let r = ready (goal.at.slice_bounds-list_line-end-2 c).Else-not-is_ready in
-    let l : length c.gather-held.new.line ≡ length c.args.line.now = search rules in
-    sym (length-take-le _ _ (omega (arith, c.gather-held.ensures.low, l, r.line_length)))
+-- past the three tests
+ready : (c : In-Some-as_mut_array) → let a = c.args in Ready a.line.now a.table.now a.out.now a.at
+ready c = record { line_length = c.in-Some.ensures.cases.long; table_len = c.in-Some-as_mut_array.ensures.cases.long; room = c.has_room.ensures.0 c.if-not-has_room.false }
 
-pub list_line-next-requires : goal.list_line-next-requires
-list_line-next-requires c =
-    let r = ready (goal.at.list_line-next-requires c).Else-not-is_ready in
-    (r.table_len, omega (arith, r.room))
+pub returns-in_default-end : goal.returns-in_default-end
+returns-in_default-end c =
+    rw c.in-Some-as_mut_array.ensures.cases.same
+    (step_part _ _ _ _ _ _ _ c.gather-held.result (ready (goal.at.returns-in_default-end c).In-Some-as_mut_array) (rw c.in-Some.ensures.cases.same at c.gather-held.ensures) (search rules) c.in_default-end.is)
 
 pub returns : goal.returns
-returns c = step_whole _ _ _ _ _ _ c.is_ready.ensures _ _ c.gather-held.result c.if-not-is_ready.false _ c.held_in.ensures c.gather-held.ensures (search rules) _ _ _ _ _ _ c.in-Some.is refl refl c.list_line-next.ensures (search rules)
+returns c =
+    step_whole _ _ _ _ _ _ _ c.gather-held.result (ready (goal.at.returns c).In-Some-as_mut_array) (rw c.in-Some.ensures.cases.same at c.gather-held.ensures) (search rules)
+    _ _ _ _ _ _ _ c.in-Some-end.is refl refl (rw c.in-Some-as_mut_array.ensures.cases.same at c.list_line-next.ensures) (search rules) (search rules)

@@ -1,14 +1,14 @@
-use Rattle.std.proofs.Common.{arith}
+use Rattle.std.proofs.Common.{◌<◌, arith}
 use Rattle.listing.proofs.Printed.{rows_start, rows_room, rows_step, rows_end}
 use Rattle.listing.proofs.writing.Writer.rows.Goals as goal
 
 pub loop-m-init : goal.loop-m-init
-loop-m-init c = rows_start _ _ _ (omega (arith, c.requires.3))
+loop-m-init c = rows_start _ _ _ (omega (arith, c.requires.2))
 
 pub row-requires : goal.row-requires
 row-requires c =
-    let last = c.requires.2 in
-    (c.requires.0, omega (arith, c.requires.1, c.loop-m.auto.m), omega (arith, c.loop-m-test.true, last), rows_room c.loop-m.invariant (omega (arith, c.loop-m-test.true, last)) c.requires.1 c.requires.3)
+    let below : c.loop-m.m < 31 = omega (arith, c.loop-m-test.true, c.requires.1) in
+    (omega (arith, c.requires.0, c.loop-m.auto.m), omega (arith, below), rows_room c.loop-m.invariant below c.requires.0 c.requires.2)
 
 pub loop-m-preserved : goal.loop-m-preserved
 loop-m-preserved c = rows_step c.loop-m.auto.m c.loop-m.invariant c.row.ensures
