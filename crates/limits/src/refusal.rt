@@ -4,21 +4,25 @@ ghost use Rattle.refusals.specs.Refusals.{number_of, IsJudged};
 ghost use Rattle.limits.specs.Tests.{is_ioncap_type, too_many_bays, length_refusal, input_refusal};
 
 use crate::numbers::is_finite;
+use parameters::Kind;
 use refusals::Refusal;
 
 const MOST_BAYS: f32 = 64.0;
 
+// By the number, as document 01 says it.
 fn is_ioncap_type(kop: i32) -> bool
     ensures { result ≡ is_ioncap_type kop }
 {
     (1..=10).contains(&kop)
 }
 
-// By the number as it was handed in, which may be no type's.
 fn too_many_bays(kop: i32, bays: f32) -> bool
     ensures { result ≡ too_many_bays kop bays }
 {
-    kop == 6 && bays > MOST_BAYS
+    match Kind::from(kop) {
+        Kind::Curtain => bays > MOST_BAYS,
+        _ => false,
+    }
 }
 
 // Of a call with a slice of the wrong length: the height is judged before.

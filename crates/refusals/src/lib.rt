@@ -28,11 +28,11 @@ impl Refusal {
 }
 
 // What a caller in C is told: 0 where nothing is refused.
-pub fn verdict_number(verdict: Result<(), Refusal>) -> u32
+pub fn verdict_number<T: Copy>(verdict: Result<T, Refusal>) -> u32
     ensures { result ≡ outcome_number verdict }
 {
     match verdict {
-        Ok(()) => 0,
+        Ok(_) => 0,
         Err(refusal) => refusal.number(),
     }
 }

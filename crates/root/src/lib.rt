@@ -4,6 +4,7 @@
 ghost use Rattle.std.specs.Prelude.{◌≡◌};
 ghost use Rattle.root.specs.Root.{root};
 
+#[tactic(auto, using(crate::proofs::Rounded::sqrt_is))]
 pub fn sqrt(y: f32) -> f32
     ensures { result ≡ root y }
 {

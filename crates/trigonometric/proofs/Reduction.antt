@@ -1,5 +1,5 @@
 -- What n is cut from is small, and n's parts as the code finds them are those of the definition. Assumes nothing.
-use mathlib.Core.Path.{◌≡◌, refl, sym, ap, subst, ◌∙◌}
+use mathlib.Core.Path.{◌≡◌, refl, sym, ap, ◌∙◌}
 use mathlib.Core.Bool.{Bool, true, false, cond}
 use mathlib.Core.List.{[], ◌∷◌}
 use mathlib.Core.Logic.{◌≢◌}
@@ -53,13 +53,13 @@ module _ (x : Float) (h : in_range x ≡ true) where
 
   -- the code's steps: t, k, n, r and q
   pub reduction_is : (t : Float) (k : ℕ) (n r : Float) (q : ℕ) → t ≡ turns_argument x → k ≡ whole_part t → n ≡ turns_float (lt t (of_bits binary32 0)) k → r ≡ rest x n → q ≡ quadrant_by (lt t (of_bits binary32 0)) k
-      → (q ≡ quadrant_of (turns x)) × (r ≡ reduced x) × (q < 4)
+      → (q ≡ quadrant_of (turns x)) × (r ≡ reduced x)
   unfolding turns_float reduced
   reduction_is t k n r q et ek en er eq =
       let s : Bool = lt t (of_bits binary32 0) in
       let is : signed s k ≡ turns x = ap (signed s) (ek ∙ ap whole_part et) ∙ ap (λ (u : Float). signed (lt u (of_bits binary32 0)) (whole_part (turns_argument x))) et ∙ sym turns_parts in
       let at : q ≡ quadrant_of (turns x) = eq ∙ quadrant_parts s k ∙ ap quadrant_of is in
-      (at, er ∙ ap (rest x) (en ∙ ap (of_int binary32) is), subst (λ (m : ℕ). m < 4) (sym at) (quadrant_below (turns x)))
+      (at, er ∙ ap (rest x) (en ∙ ap (of_int binary32) is))
 
 -- ---- the choice by quadrant, and what it makes
 below_4 : (P : ℕ → Type 0) → P 0 → P 1 → P 2 → P 3 → (q : ℕ) → q < 4 → P q

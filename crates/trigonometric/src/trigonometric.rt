@@ -1,5 +1,5 @@
 // Sine, cosine and tangent: a reduction by quarter turns, two polynomials, and a choice by quadrant.
-ghost use Rattle.std.specs.Prelude.{◌≡◌, true, ◌<◌, ◌≤◌, ◌^◌};
+ghost use Rattle.std.specs.Prelude.{◌≡◌, true, ◌+◌, ◌%◌, ◌<◌, ◌≤◌, ◌^◌};
 ghost use Rattle.std.specs.Float.{binary32};
 ghost use Rattle.std.specs.Float.Ieee.{mul};
 ghost use Rattle.single.proofs.Magnitude.{Mag};
@@ -15,9 +15,16 @@ pub struct SineCosine {
     pub cosine: f32,
 }
 
+// n modulo 4.
+#[derive(Clone, Copy)]
+struct Quadrant {
+    q: u32,
+    ghost below_four: { q < 4 },
+}
+
 #[derive(Clone, Copy)]
 struct Reduction {
-    quadrant: u32,
+    quadrant: Quadrant,
     rest: f32,
 }
 
@@ -61,12 +68,29 @@ fn turns_float(negative: bool, k: u32) -> f32
     n as f32
 }
 
-// n modulo 4, from its magnitude and sign.
-fn quadrant(negative: bool, k: u32) -> u32
-    ensures { result ≡ quadrant_by negative k }
+// From n's magnitude and sign.
+#[tactic(auto, unfolding(crate::specs::Turns::quadrant_by))]
+fn quadrant_by(negative: bool, k: u32) -> Quadrant
+    ensures { result.q ≡ quadrant_by negative k }
 {
     let q = k % 4;
-    if negative { (4 - q) % 4 } else { q }
+    if negative {
+        Quadrant { q: (4 - q) % 4 }
+    } else {
+        Quadrant { q }
+    }
+}
+
+impl Quadrant {
+    // That many quarter turns on.
+    fn ahead(self, quarters: u32) -> Quadrant
+        requires { quarters < 4 }
+        ensures { result.q ≡ (self.q + quarters) % 4 }
+    {
+        Quadrant {
+            q: (self.q + quarters) % 4,
+        }
+    }
 }
 
 fn rest_of(x: f32, n: f32) -> f32
@@ -77,15 +101,15 @@ fn rest_of(x: f32, n: f32) -> f32
 
 fn reduce(x: f32) -> Reduction
     requires { in_range x ≡ true }
-    ensures { (result.quadrant ≡ quadrant_of (turns x)) × (result.rest ≡ reduced x) × (result.quadrant < 4) }
+    ensures { (result.quadrant.q ≡ quadrant_of (turns x)) × (result.rest ≡ reduced x) }
 {
     let t = turns_argument(x);
     let k = whole_part(t);
     let negative = t < 0.0;
     let n = turns_float(negative, k);
     let rest = rest_of(x, n);
-    let q = quadrant(negative, k);
-    Reduction { quadrant: q, rest }
+    let quadrant = quadrant_by(negative, k);
+    Reduction { quadrant, rest }
 }
 
 fn sine_part(r: f32, z: f32) -> f32
@@ -101,35 +125,32 @@ fn cosine_part(z: f32) -> f32
 }
 
 // By an array, since a choice between two f32s costs a jump.
-fn sine_at(q: u32, s: f32, c: f32) -> f32
-    requires { q < 4 }
-    ensures { result ≡ sine_at q s c }
+fn sine_at(quadrant: Quadrant, s: f32, c: f32) -> f32
+    ensures { result ≡ sine_at quadrant.q s c }
 {
     let parts = [s, c, -s, -c];
-    parts[q as usize]
+    parts[quadrant.q as usize]
 }
 
 // The cosine is the sine a quarter turn on.
-fn cosine_at(q: u32, s: f32, c: f32) -> f32
-    requires { q < 4 }
-    ensures { result ≡ cosine_at q s c }
+fn cosine_at(quadrant: Quadrant, s: f32, c: f32) -> f32
+    ensures { result ≡ cosine_at quadrant.q s c }
 {
-    sine_at((q + 1) % 4, s, c)
+    sine_at(quadrant.ahead(1), s, c)
 }
 
 // One of the two parts alone: along a row of a table its choice is foreseen.
-fn sine_of(q: u32, r: f32) -> f32
-    requires { q < 4 }
-    ensures { result ≡ sine_at q (sine_part r (mul binary32 r r)) (cosine_part (mul binary32 r r)) }
+fn sine_of(quadrant: Quadrant, r: f32) -> f32
+    ensures { result ≡ sine_at quadrant.q (sine_part r (mul binary32 r r)) (cosine_part (mul binary32 r r)) }
 {
     let z = r * r;
-    let v = if q % 2 == 0 {
+    let v = if quadrant.q % 2 == 0 {
         sine_part(r, z)
     } else {
         cosine_part(z)
     };
     let parts = [v, -v];
-    parts[(q / 2) as usize]
+    parts[(quadrant.q / 2) as usize]
 }
 
 // The sine that many quarter turns on from x.
@@ -139,7 +160,7 @@ fn sine_ahead(x: f32, quarters: u32) -> f32
 {
     if in_range(x) {
         let d = reduce(x);
-        sine_of((d.quadrant + quarters) % 4, d.rest)
+        sine_of(d.quadrant.ahead(quarters), d.rest)
     } else {
         f32::NAN
     }

@@ -9,4 +9,4 @@ whole_part-k-requires c = subst (Mag (2 ^ 21)) (sym c.turns_argument-t.ensures) 
 
 pub returns : goal.returns
 returns c =
-    reduction_is c.args.x c.requires _ _ _ _ _ c.turns_argument-t.ensures c.whole_part-k.ensures.0 c.turns_float-n.ensures c.rest_of-rest.ensures c.quadrant-q.ensures
+    reduction_is c.args.x c.requires _ _ _ _ _ c.turns_argument-t.ensures c.whole_part-k.ensures.0 c.turns_float-n.ensures c.rest_of-rest.ensures c.quadrant_by-quadrant.ensures

@@ -7,7 +7,8 @@ pub returns-then-in_range : goal.returns-then-in_range
 unfolding sine_ahead
 returns-then-in_range c =
     let d = c.reduce-d.ensures in
-    in_range_is (sine_ahead_at _) _ _ _ _ _ _ (sym c.in_range.ensures ∙ c.if-in_range.true) d.0 d.1 refl refl c.sine_of.ensures
+    in_range_is (sine_ahead_at _) _ _ _ _ _ _ (sym c.in_range.ensures ∙ c.if-in_range.true) d.0 d.1 refl refl
+    (rw (← c.ahead.ensures) c.sine_of.ensures)
 
 pub returns-else-in_range : goal.returns-else-in_range
 unfolding sine_ahead

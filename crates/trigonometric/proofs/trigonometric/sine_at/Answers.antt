@@ -4,4 +4,4 @@ use Rattle.trigonometric.proofs.trigonometric.sine_at.Goals as goal
 
 pub returns : goal.returns
 unfolding sine_at
-returns c = by_quadrant_lem c.args.q _ _ _ _ c.requires
+returns c = by_quadrant_lem c.args.quadrant.q _ _ _ _ c.args.quadrant.below_four
