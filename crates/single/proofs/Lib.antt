@@ -14,3 +14,4 @@ pub mod Magnitude
 pub mod Bounded
 pub mod Floor
 pub mod Answer
+pub mod Literals
