@@ -9,6 +9,7 @@ use parameters::Kind;
 use patterns::Pattern;
 use rows::Row;
 
+#[tactic(auto, unfolding(crate::specs::Cell::power_cell))]
 fn power_cell(row: Row, azimuth: Azimuth, e: Elevation) -> f32
     ensures { result ≡ power_cell row azimuth e }
 {
@@ -26,6 +27,7 @@ fn power_cell(row: Row, azimuth: Azimuth, e: Elevation) -> f32
 }
 
 // The floor is tested before the reflection is computed.
+#[tactic(auto, unfolding(crate::specs::Cell::curtain_cell))]
 fn curtain_cell(
     card: CurtainCard,
     spacings: CurtainRow,
@@ -52,6 +54,7 @@ fn curtain_cell(
 
 // The elevation comes as four numbers: as a struct it would be read whole from memory right after its
 // fields were written there one by one, and the processor waits for that.
+#[tactic(auto, unfolding(crate::specs::Cell::cell_of))]
 fn cell(row: Row, azimuth: Azimuth, delta: f32, t: f32, q: f32, r: f32, s: f32) -> f32
     ensures { result ≡ cell_of row azimuth delta (record { t = t; q = q; r = r; s = s }) }
 {
@@ -63,6 +66,7 @@ fn cell(row: Row, azimuth: Azimuth, delta: f32, t: f32, q: f32, r: f32, s: f32) 
 }
 
 // Types 3 and 4 look straight up, at 1.570796 and azimuth 0: the same for a whole row.
+#[tactic(auto, unfolding(crate::specs::Cell::zenith_gain, parameters::proofs::Literals::round, parameters::proofs::Literals::of_bits))]
 pub fn zenith_gain(row: Row) -> f32
     ensures { result ≡ zenith_gain row }
 {
@@ -73,6 +77,7 @@ pub fn zenith_gain(row: Row) -> f32
 }
 
 // By the fourth power of the elevation's sine, so that straight up reads the same at each azimuth.
+#[tactic(auto, unfolding(crate::specs::Cell::blend_of, parameters::proofs::Literals::round, parameters::proofs::Literals::of_bits))]
 pub fn blend(e: Elevation, zenith: f32, rain: f32) -> f32
     ensures { result ≡ blend_of e zenith rain }
 {
@@ -80,6 +85,7 @@ pub fn blend(e: Elevation, zenith: f32, rain: f32) -> f32
     zenith * gmorph + rain * (1.0 - gmorph)
 }
 
+#[tactic(auto, unfolding(crate::specs::Cell::blends_with_zenith))]
 pub fn blends_with_zenith(kind: Kind) -> bool
     ensures { result ≡ blends_with_zenith kind }
 {
@@ -87,6 +93,7 @@ pub fn blends_with_zenith(kind: Kind) -> bool
 }
 
 // `zenith` is the row's own gain there, which types 3 and 4 alone take.
+#[tactic(auto, unfolding(crate::specs::Cell::cell_gain))]
 pub fn cell_gain(row: Row, zenith: f32, azimuth: Azimuth, delta: f32, e: Elevation) -> f32
     ensures { result ≡ cell_gain row zenith azimuth delta e }
 {
