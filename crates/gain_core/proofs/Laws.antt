@@ -99,7 +99,8 @@ zenith_own K.SlopingRhombic leg wave t = refl
 zenith_own K.InterlacedRhombic leg wave t = refl
 zenith_own K.Other leg wave t = refl
 
-pub zenith_left : (antenna : Antenna) (fmc : Float) → blends_with_zenith antenna.kind ≡ true → height_for antenna.kind antenna.leg (wave_of fmc) ≡ num 1 1
+pub zenith_left : (antenna : Antenna) (fmc : Float) → blends_with_zenith antenna.kind ≡ true
+    → height_for antenna.kind antenna.leg (wave_of fmc) ≡ num 1 1
 zenith_left antenna fmc u = zenith_own antenna.kind antenna.leg (wave_of fmc) u
 
 pub zenith_ground_left : (antenna : Antenna) (fmc : Float) (e : Elevation) (height : Float) → blends_with_zenith antenna.kind ≡ true
@@ -107,7 +108,8 @@ pub zenith_ground_left : (antenna : Antenna) (fmc : Float) (e : Elevation) (heig
 unfolding at_ground
 zenith_ground_left antenna fmc e height u = rw u (from_row antenna fmc (ground_from antenna e height) _ (λ row own. own.1 ∙ zenith_left antenna fmc u) tt)
 
-pub zenith_ground_same : (antenna : Antenna) (fmc : Float) (e : Elevation) (h h' : Float) → blends_with_zenith antenna.kind ≡ true → at_ground antenna fmc e h ≡ at_ground antenna fmc e h'
+pub zenith_ground_same : (antenna : Antenna) (fmc : Float) (e : Elevation) (h h' : Float) → blends_with_zenith antenna.kind ≡ true
+    → at_ground antenna fmc e h ≡ at_ground antenna fmc e h'
 unfolding at_ground
 zenith_ground_same antenna fmc e h h' u = rw u (go (row_of antenna fmc))
   where
@@ -124,7 +126,8 @@ number_same antenna fmc delta e h h' = work_number_lem antenna fmc e delta h ∙
 abbrev pub AboveFloor : Float → Float → Type 0
 AboveFloor gain efficiency = (gain ≡ nan) ⊎ (T (lt floor gain) ⊎ (gain ≡ floor ⊞ efficiency))
 
-cell_floor : (p : Pattern) (row : Row) (azimuth : Azimuth) (delta : Float) (e : Elevation) → is_kind row.kind 2 ≡ false → AboveFloor (cell_by p row azimuth delta e) row.eff
+cell_floor : (p : Pattern) (row : Row) (azimuth : Azimuth) (delta : Float) (e : Elevation) → is_kind row.kind 2 ≡ false
+    → AboveFloor (cell_by p row azimuth delta e) row.eff
 unfolding power_cell curtain_cell
 cell_floor (P.Rhombic legs) row azimuth delta e t = floor_rule row.kind _ row.eff row.sok t
 cell_floor (P.Interlaced legs offset) row azimuth delta e t = floor_rule row.kind _ row.eff row.sok t
@@ -141,5 +144,7 @@ pub floor_above : (antenna : Antenna) (fmc delta : Float) (e : Elevation) → is
 unfolding above_ground cell_gain cell_of
 floor_above antenna fmc delta e t u =
     from_row antenna fmc (above_from antenna delta e) _
-    (λ row own. rw (ap blends_with_zenith own.0 ∙ u) (cell_floor row.value.pattern row.value antenna.azimuth delta e (ap (λ (k : Kind). is_kind k 2) own.0 ∙ t)))
+    (λ row own.
+    let not_2 = ap (λ (k : Kind). is_kind k 2) own.0 ∙ t in
+    rw (ap blends_with_zenith own.0 ∙ u) (cell_floor row.value.pattern row.value antenna.azimuth delta e not_2))
     tt

@@ -1,4 +1,5 @@
--- Refusal 11 arises in the work where, and only where, its row's pattern is unsettled (patterns/proofs/Unsettled.antt): above the ground, and at it for types 3 and 4 alone. Assumes nothing.
+-- Refusal 11 arises in the work where, and only where, its row's pattern is unsettled (patterns/proofs/Unsettled.antt): above the ground,
+-- and at it for types 3 and 4 alone. Assumes nothing.
 use Rattle.std.specs.Prelude.{◌≡◌, Bool, true, false, ◌⊎◌}
 use mathlib.Core.Path.{refl, ◌∙◌}
 use mathlib.Core.Logic.{inl, inr}
@@ -20,12 +21,14 @@ use Rattle.cells.specs.Cell.{blends_with_zenith}
 use Rattle.gain_core.specs.Core.{above_from, above_ground, ground_from, at_ground, work_of, ground_settles, work_settles, work_values, zero_values}
 use Rattle.gain_core.specs.declared.calls.Call.{Call}
 
-of_row_above : (antenna : Antenna) (delta : Float) (e : Elevation) (r : Option (Settled Row)) → unsettled_number (above_from antenna delta e r) ≡ unsettled_number r
+of_row_above : (antenna : Antenna) (delta : Float) (e : Elevation) (r : Option (Settled Row))
+    → unsettled_number (above_from antenna delta e r) ≡ unsettled_number r
 unfolding unsettled_number
 of_row_above antenna delta e (Some row) = refl
 of_row_above antenna delta e None = refl
 
-of_row_ground : (antenna : Antenna) (e : Elevation) (height : Float) (r : Option (Settled Row)) → unsettled_number (ground_from antenna e height r) ≡ unsettled_number r
+of_row_ground : (antenna : Antenna) (e : Elevation) (height : Float) (r : Option (Settled Row))
+    → unsettled_number (ground_from antenna e height r) ≡ unsettled_number r
 unfolding unsettled_number
 of_row_ground antenna e height (Some row) = refl
 of_row_ground antenna e height None = refl
@@ -48,7 +51,8 @@ module _ (antenna : Antenna) (fmc : Float) (e : Elevation) where
   unfolding at_ground ground_settles unsettled_number
   ground_number height = go (blends_with_zenith antenna.kind) refl
     where
-      go : (b : Bool) → blends_with_zenith antenna.kind ≡ b → unsettled_number (at_ground antenna fmc e height) ≡ settled_number (ground_settles antenna fmc)
+      go : (b : Bool) → blends_with_zenith antenna.kind ≡ b
+          → unsettled_number (at_ground antenna fmc e height) ≡ settled_number (ground_settles antenna fmc)
       go true u = rw u (of_row_ground antenna e height _ ∙ row_number_lem antenna fmc)
       go false u = rw u refl
 
@@ -56,7 +60,8 @@ module _ (antenna : Antenna) (fmc : Float) (e : Elevation) where
   unfolding work_of work_settles
   work_number_lem delta height = go (le delta (num 0 1)) refl
     where
-      go : (b : Bool) → le delta (num 0 1) ≡ b → unsettled_number (work_of antenna fmc delta e height) ≡ settled_number (work_settles antenna fmc delta)
+      go : (b : Bool) → le delta (num 0 1) ≡ b
+          → unsettled_number (work_of antenna fmc delta e height) ≡ settled_number (work_settles antenna fmc delta)
       go true t = rw t (ground_number height)
       go false t = rw t (above_number delta)
 

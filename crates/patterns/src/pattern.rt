@@ -4,7 +4,7 @@ ghost use Rattle.single.specs.Answer.{IsAnswer};
 ghost use Rattle.integrals.specs.Settled.{unsettled_number, settled_value};
 ghost use Rattle.patterns.specs.Pattern.{pattern_settles};
 ghost use Rattle.patterns.specs.declared.pattern.Pattern.TheVariants as P;
-ghost use Rattle.patterns.specs.Pattern.{settled_at, dipole_of, monopole_for, inverted_l_of, sloping_of, pattern_of, power_of};
+ghost use Rattle.patterns.specs.Pattern.{settled_at, dipole_of, monopole_for, inverted_l_of, sloping_of, pattern_by, pattern_of, power_of};
 
 use angles::{Azimuth, Elevation};
 use antennas::Antenna;
@@ -83,26 +83,22 @@ fn sloping_of(antenna: Antenna, wave: f32, leg: LegInWaves, height: PhaseInWaves
     }
 }
 
-// With the most turns of an integral's series.
-pub fn pattern_of(antenna: Antenna, wave: f32) -> Option<Settled<Pattern>>
-    ensures { IsAnswer unsettled_number (settled_value P.Other) P.Other 11 (pattern_of antenna wave) (pattern_settles antenna wave) result }
+// What a row takes at a wavelength, by type, of its leg and height in wavelengths.
+fn pattern_by(
+    antenna: Antenna,
+    wave: f32,
+    along: LegInWaves,
+    above: PhaseInWaves,
+) -> Option<Settled<Pattern>>
+    ensures { result ≡ pattern_by antenna.kind antenna wave along above }
 {
-    let Antenna {
-        kind,
-        params,
-        leg,
-        height,
-        azimuth,
-        ..
-    } = antenna;
-    let phi = params.and;
-    let aex = params.aex;
-    let along = lengths::leg_in_waves(leg, wave);
-    let above = lengths::phase_in_waves(HEIGHT_TURN, height, wave);
+    let phi = antenna.params.and;
+    let aex = antenna.params.aex;
+    let azimuth = antenna.azimuth;
     let fac = along.fac;
     let hwave = above.phase;
     let sloping = sloping_of(antenna, wave, along, above);
-    match kind {
+    match antenna.kind {
         Kind::Rhombic => settled(Pattern::Rhombic(rhombics::legs_of(phi, azimuth, fac, hwave))),
         Kind::InterlacedRhombic => settled(Pattern::Interlaced(
             rhombics::legs_of(phi, azimuth, fac, hwave),
@@ -116,9 +112,18 @@ pub fn pattern_of(antenna: Antenna, wave: f32) -> Option<Settled<Pattern>>
             curtain::curtain_row(fac, above.waves, aex, azimuth, wave),
         )),
         Kind::Dipole | Kind::Yagi => dipole_of(fac, hwave),
-        Kind::Monopole | Kind::LogPeriodic => monopole_of(leg, wave),
+        Kind::Monopole | Kind::LogPeriodic => monopole_of(antenna.leg, wave),
         Kind::Other => settled(Pattern::Other),
     }
+}
+
+// With the most turns of an integral's series.
+pub fn pattern_of(antenna: Antenna, wave: f32) -> Option<Settled<Pattern>>
+    ensures { IsAnswer unsettled_number (settled_value P.Other) P.Other 11 (pattern_of antenna wave) (pattern_settles antenna wave) result }
+{
+    let along = lengths::leg_in_waves(antenna.leg, wave);
+    let above = lengths::phase_in_waves(HEIGHT_TURN, antenna.height, wave);
+    pattern_by(antenna, wave, along, above)
 }
 
 // `rain` before it is taken to dB. The curtain's is in dB from the start: the crate
