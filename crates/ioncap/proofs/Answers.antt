@@ -14,7 +14,8 @@ use Rattle.refusals.specs.declared.Refusal.TheVariants as R
 use Rattle.refusals.proofs.Refusals.{accepted, refused, number_positive, refusal_of_number}
 use Rattle.gain_core.specs.declared.calls.Call.{Call}
 use Rattle.gain_core.specs.Core.{work_gain, work_efficiency, work_height}
-use Rattle.ioncap.specs.Gain.{call_tests, call_refusal, call_work, answered, gain_of, gain_number, gain_value, efficiency_value, height_left, call_number, call_gain, call_efficiency, call_height}
+use Rattle.ioncap.specs.Gain.{call_tests, call_refusal, call_work, answered, gain_of, gain_number, gain_value, efficiency_value, height_left}
+use Rattle.ioncap.specs.Gain.{call_number, call_gain, call_efficiency, call_height}
 use Rattle.ioncap.specs.declared.gain.GainCall.{GainCall}
 use Rattle.ioncap.specs.declared.gain.Answer.{Answer}
 
@@ -50,7 +51,8 @@ pub worked_err : (w : Option Call) {e : Refusal} → ok_or w R.Unsettled ≡ Err
 worked_err (Some call) h = absurd (cc)
 worked_err None {e} h = let i : R.Unsettled ≡ e = cc in rw (← i)
 
-pub worked_ok : (w : Option Call) {call : Call} → ok_or w R.Unsettled ≡ Ok call → Ok (record { gain = call.gain; efficiency = call.efficiency; height = call.height }) ≡ answered w
+pub worked_ok : (w : Option Call) {call : Call} → ok_or w R.Unsettled ≡ Ok call
+    → Ok (record { gain = call.gain; efficiency = call.efficiency; height = call.height }) ≡ answered w
 worked_ok (Some made) {call} h = let e : made ≡ call = cc in rw e
 worked_ok None h = absurd (cc)
 
@@ -58,4 +60,5 @@ worked_ok None h = absurd (cc)
 pub zero_none_of_call : (call : GainCall) (height : Float) → (call_refusal call height ≡ 0) ↔ (any_holds (call_tests call height) ≡ false)
 unfolding call_refusal
 zero_none_of_call call height =
-    zero_none (call_tests call height) (λ h. omega arith, (λ h. omega arith, (λ h. omega arith, (λ h. omega arith, (λ h. omega arith, (λ h. omega arith, tt))))))
+    zero_none (call_tests call height)
+    (λ h. omega arith, (λ h. omega arith, (λ h. omega arith, (λ h. omega arith, (λ h. omega arith, (λ h. omega arith, tt))))))

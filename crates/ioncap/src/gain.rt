@@ -30,6 +30,7 @@ pub struct Answer {
 }
 
 // All that is handed in, used by the type or not.
+#[tactic(auto, unfolding(crate::specs::Gain::call_outside))]
 fn call_outside(call: GainCall) -> bool
     ensures { result ≡ call_outside call }
 {
@@ -52,12 +53,14 @@ fn call_outside(call: GainCall) -> bool
     limits::any_outside(&numbers) || limits::any_outside(&aex)
 }
 
+#[tactic(auto, unfolding(crate::specs::Gain::mhz_outside, parameters::proofs::Literals::round, parameters::proofs::Literals::of_bits))]
 fn mhz_outside(fmc: f32) -> bool
     ensures { result ≡ mhz_outside fmc }
 {
     !(1.0 <= fmc) || !(fmc <= 30.0)
 }
 
+#[tactic(auto, unfolding(crate::specs::Gain::call_refusal, limits::specs::Refusals::first_refusal, limits::specs::Tests::input_refusal, parameters::proofs::Literals::round, parameters::proofs::Literals::of_bits), using(refusals::proofs::Refusals::is_judged))]
 fn call_refusal(call: GainCall, height: f32) -> Result<(), Refusal>
     ensures { IsJudged (call_refusal call height) result }
 {
@@ -96,6 +99,7 @@ pub fn gain_of(call: GainCall, height: f32) -> Result<Answer, Refusal>
 }
 
 // A refusal keeps the height.
+#[tactic(auto, unfolding(crate::specs::Gain::height_left))]
 pub fn height_left(answer: Result<Answer, Refusal>, height: f32) -> f32
     ensures { result ≡ height_left answer height }
 {
