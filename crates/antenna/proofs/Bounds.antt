@@ -31,14 +31,16 @@ next_within n most l h = go (ltb n most) (ltb-true n most)
     go false f = (omega arith, le_refl most)
 
 module _ (fmc delta : Float) where
-  place : InTable (place_of fmc delta).i (place_of fmc delta).j (place_of fmc delta).jp1 × InTable (place_of fmc delta).ip1 (place_of fmc delta).j (place_of fmc delta).jp1
+  place : let p = place_of fmc delta in InTable p.i p.j p.jp1 × InTable p.ip1 p.j p.jp1
   unfolding place_of
   place =
       let i = clamped_within _ row_count (lit≤ tt) in
       let j = clamped_within _ column_count (lit≤ tt) in
       let ip1 = next_within _ row_count i.0 i.1 in
-      let jp1 = next_within _ column_count j.0 j.1 in
-      (record { first = i.0; last = i.1; column = j.0; most = j.1; next = jp1.0; end = jp1.1 }, record { first = ip1.0; last = ip1.1; column = j.0; most = j.1; next = jp1.0; end = jp1.1 })
+      let jp1 = next_within _ column_count j.0 j.1 in (
+        record { first = i.0; last = i.1; column = j.0; most = j.1; next = jp1.0; end = jp1.1 },
+        record { first = ip1.0; last = ip1.1; column = j.0; most = j.1; next = jp1.0; end = jp1.1 },
+      )
 
   pub low_in : InTable (place_of fmc delta).i (place_of fmc delta).j (place_of fmc delta).jp1
   low_in = place.0

@@ -17,7 +17,8 @@ clamp_is (pos k) most h = grind (arith, nat_tests)
 clamp_is (negsuc k) most h = refl
 
 -- r as the machine casts it
-pub clamped_is : (z r : ℤ) (most : ℕ) → 1 ≤ most → most < 2 ^ 31 → r ≡ int_max (pos 1) (int_min z (pos most)) → nat_abs (to_z w32 (of_z w32 r)) ≡ clamped z most
+pub clamped_is : (z r : ℤ) (most : ℕ) → 1 ≤ most → most < 2 ^ 31 → r ≡ int_max (pos 1) (int_min z (pos most))
+    → nat_abs (to_z w32 (of_z w32 r)) ≡ clamped z most
 clamped_is z r most low high e =
     let p = e ∙ clamp_is z most low in
     let l = (clamped_within z most low).1 in

@@ -30,8 +30,8 @@ within_mag x h = wider 1000 (lit≤ tt) x (L.within_mag x h)
 pub degrees_mag : (delta : Float) → outside delta ≡ false → Mag (2 ^ 21) (delta ⊠ r2d ⊞ num 1 1)
 unfolding round
 degrees_mag delta h =
-    wider (2 ^ 17) (lit≤ tt) (delta ⊠ r2d ⊞ num 1 1)
-    (add_mag (delta ⊠ r2d) (num 1 1) (2 ^ 16) 1 17 refl (mul_mag delta r2d 1000 64 16 refl (L.within_mag delta h) (lit≤ tt) (lit≤ tt)) (lit≤ tt) (lit≤ tt))
+    let degrees = mul_mag delta r2d 1000 64 16 refl (L.within_mag delta h) (lit≤ tt) (lit≤ tt) in
+    wider (2 ^ 17) (lit≤ tt) _ (add_mag (delta ⊠ r2d) (num 1 1) (2 ^ 16) 1 17 refl degrees (lit≤ tt) (lit≤ tt))
 
 pub cut-kept : (x : Float) → outside x ≡ false → T (in_float binary32 (cut_toward x))
 cut-kept x h =

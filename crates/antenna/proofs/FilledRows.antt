@@ -1,7 +1,7 @@
 -- Document 02, C-11, of a card's lookup: its sentences as theorems. Assumes nothing.
 use Prim.Native.Nat.{ℕ, suc, ◌-◌, ◌<◌, ◌≤◌}
 use mathlib.Core.Path.{◌≡◌, refl, sym, ◌∙◌}
-use mathlib.Core.Bool.{Bool, true, false, cond, not, ◌&&◌}
+use mathlib.Core.Bool.{Bool, true, false, cond, not}
 use mathlib.Core.List.{List}
 use mathlib.Core.Logic.{◌≢◌}
 use native.Mathlib.Omega.{arith}
@@ -10,6 +10,7 @@ use borrow.Author.Tests.{eqb-true, ne_eqb}
 use lib.Dec.{eqb}
 use lib.IntN.{ℤ, nat_abs}
 use lib.Ieee.{Float, lt, le}
+use Rattle.std.proofs.Math.Bool.{and-true}
 use Rattle.single.specs.Single.{whole}
 use Rattle.limits.specs.Tests.{outside}
 use Rattle.table.specs.Range.{is_range, is_filled}
@@ -55,10 +56,6 @@ module _ (first last : ℤ) (t : List Float) (fmc delta : Float) (r : is_range f
       go : (a : Bool) → (a ≡ true → n ≡ 0) → cond a 0 n ≡ n
       go true f = sym (f refl)
       go false f = refl
-
-  and-true : (b : Bool) → (b && true) ≡ b
-  and-true true = refl
-  and-true false = refl
 
   pub card_number : card_lookup_number first last 0 t fmc delta ≡ gain_lookup_number t fmc delta
   card_number = card_refusal_lem first last 0 t fmc delta ∙ passes (lookup_refusal t fmc delta) (is_range first last) r

@@ -14,7 +14,8 @@ use Rattle.std.specs.declared.result.Result.TheVariants.{Ok, Err}
 use Rattle.refusals.specs.Refusals.{refusal_of, outcome_number, outcome_values, answered}
 use Rattle.antenna.specs.Places.{place_of}
 use Rattle.antenna.specs.Rows.{row_of, blended_at}
-use Rattle.antenna.specs.Lookups.{zeros, card_values, lookup_number, lookup_values, gain_lookup_number, gain_lookup_values, gain_lookup_of, card_lookup_values, card_lookup_of}
+use Rattle.antenna.specs.Lookups.{zeros, lookup_number, lookup_values, gain_lookup_number, gain_lookup_values, gain_lookup_of}
+use Rattle.antenna.specs.Lookups.{card_values, card_lookup_values, card_lookup_of}
 
 by_tests : {A : Type 0} (v : A) (a b : Bool) → outcome_number (answered (cond a 7 (cond b 2 0)) v) ≡ cond a 7 (cond b 2 0)
 by_tests v true b = refl

@@ -21,6 +21,7 @@ fn lookup<T: Table>(table: T, fmc: f32, delta: f32) -> Result<GainEfficiency, Re
 }
 
 // At fmc MHz and an elevation of delta radians.
+#[tactic(auto, using(crate::proofs::Wholes::gain_number, crate::proofs::Wholes::gain_values))]
 pub fn gain_lookup(table: &[f32], fmc: f32, delta: f32) -> Result<GainEfficiency, Refusal>
     ensures value { result ≡ gain_lookup_of table.now fmc delta }
     ensures number { lookup_number result ≡ gain_lookup_number table.now fmc delta }
@@ -29,6 +30,7 @@ pub fn gain_lookup(table: &[f32], fmc: f32, delta: f32) -> Result<GainEfficiency
     lookup(table, fmc, delta)
 }
 
+#[tactic(auto, using(crate::proofs::Wholes::gain_number, crate::proofs::Wholes::gain_values))]
 pub fn gain_lookup_in_bytes(bytes: &[u8], fmc: f32, delta: f32) -> Result<GainEfficiency, Refusal>
     ensures value { result ≡ gain_lookup_of (table_of bytes.now) fmc delta }
     ensures number { lookup_number result ≡ gain_lookup_number (table_of bytes.now) fmc delta }

@@ -33,6 +33,7 @@ impl Table for &[f32] {
 }
 
 // The k-th number of the bytes.
+#[tactic(auto, using(encoding::proofs::Floats::floats_at))]
 fn cell(table: &[u8], k: usize) -> f32
     requires { k * 4 + 4 ≤ length table.now }
     ensures { result ≡ get_or (floats_of table.now) k nan }

@@ -15,8 +15,10 @@ use Rattle.antenna.proofs.Cuts.{within_mag, degrees_mag, cut-kept}
 use Rattle.antenna.proofs.places.locate.Goals as goal
 
 -- n and m are the MHz and the degrees plus 1, cut
-placed : (fmc delta : Float) (n m : ℤ) (i j ip1 jp1 : ℕ) → n ≡ cut_toward fmc → i ≡ clamped n row_count → m ≡ cut_toward (delta ⊠ r2d ⊞ num 1 1) → j ≡ clamped m column_count → ip1 ≡ next_of i row_count → jp1 ≡ next_of j column_count
-    → record { i = i; ip1 = ip1; xfmc = fmc ⊟ of_int binary32 n; j = j; jp1 = jp1; xdelta = delta ⊠ r2d ⊟ of_int binary32 (pos (j - 1)) } ≡ place_of fmc delta
+placed : (fmc delta : Float) (n m : ℤ) (i j ip1 jp1 : ℕ) → n ≡ cut_toward fmc → i ≡ clamped n row_count
+    → m ≡ cut_toward (delta ⊠ r2d ⊞ num 1 1) → j ≡ clamped m column_count → ip1 ≡ next_of i row_count → jp1 ≡ next_of j column_count
+    → let xdelta = delta ⊠ r2d ⊟ of_int binary32 (pos (j - 1)) in
+    record { i = i; ip1 = ip1; xfmc = fmc ⊟ of_int binary32 n; j = j; jp1 = jp1; xdelta = xdelta } ≡ place_of fmc delta
 unfolding place_of
 placed fmc delta n m i j ip1 jp1 a b d e f g = rw (← a, ← b, ← d, ← e, ← f, ← g)
 
