@@ -46,7 +46,8 @@ counted_heading n k v = go (ltb n 10000000) refl
 module _ (s : S.Session) (q : List ℕ) (t t' : List Float) (w w' w'' : Writer) (n v : ℕ) (k : ℤ) (d' : D.Deck) (counts : n ≡ counted s.listed) where
   abbrev Lists : Option Fields → Type 0
   Lists l =
-      k ≡ type_of (line_in l) → LineRun (state_of s.deck) l t' v (state_of d') → Written w (heading_text n k v) w' → Written w' (rows_by (line_in l) t' v) w'' → w''.at ≤ w'.at + 540
+      k ≡ type_of (line_in l) → LineRun (state_of s.deck) l t' v (state_of d')
+      → Written w (heading_text n k v) w' → Written w' (rows_by (line_in l) t' v) w'' → w''.at ≤ w'.at + 540
       → LineListed s q t t' w w'' (record { deck = d'; listed = n; held = 0 })
 
   line_of_lem : Lists (line_of q)

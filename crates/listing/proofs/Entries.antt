@@ -74,10 +74,12 @@ module _ (d : Deck) (l : Line the_antenna) (t : List Float) (h : length t ≡ 27
       }
 
 -- ---- a line as it was read
-pub line_run : (d : Deck) (l : Option Fields) (x : Line the_antenna) (t t' : List Float) (v : ℕ) (d' : Deck) → length t ≡ 2760 → line_in l ≡ x → EntryDone the_antenna count_limit d (record { line = x; table = t }) t' v d' → LineRun d l t' v d'
+pub line_run : (d : Deck) (l : Option Fields) (x : Line the_antenna) (t t' : List Float) (v : ℕ) (d' : Deck) → length t ≡ 2760 → line_in l ≡ x
+    → EntryDone the_antenna count_limit d (record { line = x; table = t }) t' v d' → LineRun d l t' v d'
 line_run d l y t t' v d' h e x = rw e (entry_same d y t h t' v d' x)
 
-pub accepted : (d : Deck) (l : Option Fields) (f : Fields) (t' : List Float) (v : ℕ) (d' : Deck) → LineRun d l t' v d' → l ≡ Some f → v ≡ 0 → fields_refusal f ≡ 0
+pub accepted : (d : Deck) (l : Option Fields) (f : Fields) (t' : List Float) (v : ℕ) (d' : Deck)
+    → LineRun d l t' v d' → l ≡ Some f → v ≡ 0 → fields_refusal f ≡ 0
 unfolding outcome_on
 accepted d l f t' v d' x e z =
     let y : LineRun d (Some f) t' v d' = (rw e at x) in
@@ -104,7 +106,8 @@ refused_rows l t v w n h = renamed (no_text w h) (sym (refused_none (line_in l) 
 pub malformed_rows : (l : Option Fields) (t : List Float) (v : ℕ) (w : Writer) → l ≡ None → w.at ≤ length w.out.now → Written w (rows_by (line_in l) t v) w
 malformed_rows l t v w e h = rw e (no_text w h)
 
-pub accepted_by : (f : Fields) (l : Option Fields) (t : List Float) (v : ℕ) (w w' : Writer) → l ≡ Some f → v ≡ 0 → Written w (card_rows f t) w' → Written w (rows_by (line_in l) t v) w'
+pub accepted_by : (f : Fields) (l : Option Fields) (t : List Float) (v : ℕ) (w w' : Writer) → l ≡ Some f → v ≡ 0
+    → Written w (card_rows f t) w' → Written w (rows_by (line_in l) t v) w'
 accepted_by f l t v w w' e z x = rw (e, z) x
 
 abbrev pub back : ℤ → ℕ

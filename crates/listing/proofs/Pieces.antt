@@ -24,7 +24,9 @@ pub push_more : (line : List ℕ) (held b : ℕ) → length line ≡ 120 → hel
 unfolding grown
 push_more line held b h l =
     let t : length (take held line) ≡ held = length-take-le held line (omega arith) in
-    (rw (add-one held, t, lt-ltb held 120 l) (take-suc-set line held b (omega arith)), omega arith, omega arith, drop-set-lt (held + 1) line held b (omega arith))
+    let grows : take (held + 1) (set line held b) ≡ grown (take held line) b =
+    rw (add-one held, t, lt-ltb held 120 l) (take-suc-set line held b (omega arith)) in
+    (grows, omega arith, omega arith, drop-set-lt (held + 1) line held b (omega arith))
 
 pub push_full : (line : List ℕ) (held b : ℕ) → length line ≡ 120 → held ≤ 120 → 120 ≤ held → Pushed line line held held b
 unfolding grown

@@ -16,12 +16,14 @@ less_left : (p bs : List ℕ) (b : ℕ) → length (gathered p (b ∷ bs)).rest 
 unfolding gathered
 less_left p [] b = go (eqb b 10)
   where
-    go : (t : Bool) → length (cond {A = Gathered} t (record { whole = true; held = p; rest = [] }) (record { whole = false; held = grown p b; rest = [] })).rest ≤ 0
+    go : (t : Bool)
+        → length (cond {A = Gathered} t (record { whole = true; held = p; rest = [] }) (record { whole = false; held = grown p b; rest = [] })).rest ≤ 0
     go true = omega arith
     go false = omega arith
 less_left p (a ∷ bs) b = go (eqb b 10) (less_left (grown p b) bs a)
   where
-    go : (t : Bool) → length (gathered (grown p b) (a ∷ bs)).rest ≤ length bs → length (cond {A = Gathered} t (record { whole = true; held = p; rest = a ∷ bs }) (gathered (grown p b) (a ∷ bs))).rest ≤ suc (length bs)
+    go : (t : Bool) → length (gathered (grown p b) (a ∷ bs)).rest ≤ length bs
+        → length (cond {A = Gathered} t (record { whole = true; held = p; rest = a ∷ bs }) (gathered (grown p b) (a ∷ bs))).rest ≤ suc (length bs)
     go true h = omega arith
     go false h = omega arith
 
@@ -36,10 +38,12 @@ nonzero : (used : ℕ) (p bs : List ℕ) (b : ℕ) → drop used (b ∷ bs) ≡ 
 nonzero zero p bs b e = absurd (let w : ⊥ = omega (arith, less_left p bs b, ap length e) in w)
 nonzero (suc used) p bs b e = omega arith
 
-pub moves : (s : S.Session) (line piece : List ℕ) (table : List Float) (out : List ℕ) (at : ℕ) (line' : List ℕ) (table' : List Float) (out' : List ℕ) (r : D.Stepped)
+pub moves : (s : S.Session) (line piece : List ℕ) (table : List Float) (out : List ℕ) (at : ℕ)
+    (line' : List ℕ) (table' : List Float) (out' : List ℕ) (r : D.Stepped)
     → StepDone s line piece table out at line' table' out' r → is_ready line table out at ≡ true → 0 < length piece → 0 < r.used
 unfolding step_of
 moves s line [] table out at line' table' out' r x e h = absurd (let w : ⊥ = omega arith in w)
 moves s line (b ∷ bs) table out at line' table' out' r x e h =
-    nonzero r.used (state_in s line table).held bs b
-    (x.rest ∙ ap (λ (t : Bool). (step_of t (state_in s line table) (b ∷ bs)).rest) e ∙ (parts_by (state_in s line table) (gathered (state_in s line table).held (b ∷ bs))).1)
+    let before = state_in s line table in
+    nonzero r.used before.held bs b
+    (x.rest ∙ ap (λ (t : Bool). (step_of t before (b ∷ bs)).rest) e ∙ (parts_by before (gathered before.held (b ∷ bs))).1)

@@ -35,7 +35,8 @@ module _ (s : S.Session) (line : List ℕ) (table : List Float) (out : List ℕ)
       let used : r.used ≡ length piece - length step.rest = omega (arith, sym (length-drop r.used piece) ∙ ap length d) in
       rw (← ap (λ (t : State). t.deck) i, ← ap (λ (t : State). t.listed) i, ← h, ← used, ← n)
 
-  pub step_idle : (piece : List ℕ) → (Ready line table out at → ⊥) → StepDone s line piece table out at line table out (record { session = s; used = 0; at = at })
+  pub step_idle : (piece : List ℕ) → (Ready line table out at → ⊥)
+      → StepDone s line piece table out at line table out (record { session = s; used = 0; at = at })
   unfolding step_of
   step_idle piece none =
       let n = not_ready line table out at none in
@@ -121,7 +122,12 @@ module _ (s : S.Session) (line : List ℕ) (table : List Float) (out : List ℕ)
     unfolding finish_text finish_table
     ended q table' out' r h t x =
         let n = ready_from line table out at e in
-        record { table_left = rw (n, h) (rw h at t); text = rw (n, h) (rw h at x.is); end = rw (n, h) (rw h at x.end); fits = λ k. omega (arith, x.end, x.fits) }
+        record {
+          table_left = rw (n, h) (rw h at t);
+          text = rw (n, h) (rw h at x.is);
+          end = rw (n, h) (rw h at x.end);
+          fits = λ k. omega (arith, x.end, x.fits);
+        }
 
     -- what the code takes as held
     held_is : (held : ℕ) → held ≡ min s.held 120 → take held line ≡ take s.held line
@@ -133,7 +139,8 @@ module _ (s : S.Session) (line : List ℕ) (table : List Float) (out : List ℕ)
         let y : Appended out at (counts_text s.deck.accepted s.deck.refused) w'.out.now w'.at = (rw (o, f) at x.text) in
         rw d (ended [] table w'.out.now w'.at (sym (held_is held p) ∙ ap (λ (k : ℕ). take k line) z) refl y)
 
-    module _ (table' : List Float) (w w' w'' : Writer) (c : S.Session) (o : w.out.now ≡ out) (f : w.at ≡ at) (x : Written w' (counts_text c.deck.accepted c.deck.refused) w'') where
+    module _ (table' : List Float) (w w' w'' : Writer) (c : S.Session) (o : w.out.now ≡ out) (f : w.at ≡ at)
+        (x : Written w' (counts_text c.deck.accepted c.deck.refused) w'') where
       some_held : (q : List ℕ) → (length q ≡ 0 → ⊥) → take s.held line ≡ q → LineListed s q table table' w w' c
           → FinishDone s line table out at table' w''.out.now w''.at
       unfolding after_line line_text
@@ -143,8 +150,8 @@ module _ (s : S.Session) (line : List ℕ) (table : List Float) (out : List ℕ)
           let text = ap (λ (z : State). line_text (state_in s line table) (a ∷ q) ++ counts z.deck) state in
           ended (a ∷ q) table' w''.out.now w''.at h (ap (λ (z : State). z.table) state) (rw (o, f) at (renamed (after (y.text line) x) text).text)
 
-      pub finish_held : (out' : List ℕ) (held : ℕ) → held ≡ min s.held 120 → (held ≡ 0 → ⊥) → LineListed s (take held line) table table' w w' c → out' ≡ w''.out.now
-          → FinishDone s line table out at table' out' w''.at
+      pub finish_held : (out' : List ℕ) (held : ℕ) → held ≡ min s.held 120 → (held ≡ 0 → ⊥)
+          → LineListed s (take held line) table table' w w' c → out' ≡ w''.out.now → FinishDone s line table out at table' out' w''.at
       finish_held out' held p n y d =
           let m : length (take held line) ≡ held = length-take-le held line (omega (arith, p, e.line_length)) in
           rw d (some_held (take held line) (λ (z : length (take held line) ≡ 0). n (sym m ∙ z)) (sym (held_is held p)) y)

@@ -27,6 +27,13 @@ use Rattle.listing.specs.Calls.{part, CallsDone, finished, stepped}
 use Rattle.listing.proofs.Cards.{heading_beyond}
 use Rattle.listing.proofs.Ready.{ready as ready_is}
 
+-- the text of the line l on the deck d, and the deck after it
+abbrev text_on : ℕ → Deck → List ℕ → List ℕ
+text_on n d l = card_text (suc n) (entry_of l).line (outcome_on the_antenna count_limit d (entry_of l))
+
+abbrev deck_past : Deck → List ℕ → Deck
+deck_past d l = deck_after the_antenna count_limit d (entry_of l)
+
 -- ---- places from 10,000,000 on
 beyond : (m n : ℕ) (d : Deck) (ls : List (List ℕ)) → 10000000 ≤ m → 10000000 ≤ n → texts_of m d ls ≡ texts_of n d ls
 unfolding texts_of card_text
@@ -34,10 +41,10 @@ beyond m n d [] h g = refl
 beyond m n d (l ∷ ls) h g =
     let o = outcome_on the_antenna count_limit d (entry_of l) in
     let x = (entry_of l).line in
-    ap (λ (t : List ℕ). t ++ rows_by x o.table o.verdict ++ texts_of (suc m) (deck_after the_antenna count_limit d (entry_of l)) ls)
+    ap (λ (t : List ℕ). t ++ rows_by x o.table o.verdict ++ texts_of (suc m) (deck_past d l) ls)
     (heading_beyond (suc m) (suc n) (type_of x) o.verdict (omega arith) (omega arith))
     ∙ ap (λ (t : List ℕ). heading_text (suc n) (type_of x) o.verdict ++ rows_by x o.table o.verdict ++ t)
-    (beyond (suc m) (suc n) (deck_after the_antenna count_limit d (entry_of l)) ls (omega arith) (omega arith))
+    (beyond (suc m) (suc n) (deck_past d l) ls (omega arith) (omega arith))
 
 counted_texts : (n : ℕ) (d : Deck) (ls : List (List ℕ)) → texts_of (counted n) d ls ≡ texts_of (suc n) d ls
 unfolding counted
@@ -81,7 +88,10 @@ over_entry p q h k =
 
 by_entry : (n : ℕ) (d : Deck) (p q : List ℕ) (ls : List (List ℕ)) → entry_of p ≡ entry_of q → texts_of n d (p ∷ ls) ≡ texts_of n d (q ∷ ls)
 unfolding texts_of
-by_entry n d p q ls = ap (λ (x : Entry the_antenna). card_text (suc n) x.line (outcome_on the_antenna count_limit d x) ++ texts_of (suc n) (deck_after the_antenna count_limit d x) ls)
+by_entry n d p q ls =
+    ap
+    (λ (x : Entry the_antenna).
+    card_text (suc n) x.line (outcome_on the_antenna count_limit d x) ++ texts_of (suc n) (deck_after the_antenna count_limit d x) ls)
 
 ended_long : (p : List ℕ) → 120 ≤ length p → ended p ≡ p ∷ []
 ended_long [] h = absurd (let w : ⊥ = omega arith in w)
@@ -89,7 +99,8 @@ ended_long (a ∷ p) h = refl
 
 over : (n : ℕ) (d : Deck) (p q : List ℕ) (ls : List (List ℕ)) → 120 ≤ length p → 120 ≤ length q → texts_of n d (joined p ls) ≡ texts_of n d (joined q ls)
 over n d p q [] h k = ap (texts_of n d) (ended_long p h) ∙ by_entry n d p q [] (over_entry p q h k) ∙ ap (texts_of n d) (sym (ended_long q k))
-over n d p q (l ∷ ls) h k = by_entry n d (p ++ l) (q ++ l) ls (over_entry (p ++ l) (q ++ l) (omega (arith, length-append p l)) (omega (arith, length-append q l)))
+over n d p q (l ∷ ls) h k =
+    by_entry n d (p ++ l) (q ++ l) ls (over_entry (p ++ l) (q ++ l) (omega (arith, length-append p l)) (omega (arith, length-append q l)))
 
 grown_same : (n : ℕ) (d : Deck) (p bs : List ℕ) (b : ℕ) → from n d (p ++ (b ∷ [])) bs ≡ from n d (grown p b) bs
 unfolding grown
@@ -102,16 +113,15 @@ grown_same n d p bs b = go (ltb (length p) 120) refl
 -- ---- a piece is gathered
 abbrev after : ℕ → Deck → Gathered → List ℕ → List ℕ
 after n d g rest =
-    cond g.whole
-    (card_text (suc n) (entry_of g.held).line (outcome_on the_antenna count_limit d (entry_of g.held)) ++ from (suc n) (deck_after the_antenna count_limit d (entry_of g.held)) [] (g.rest ++ rest))
+    cond g.whole (text_on n d g.held ++ from (suc n) (deck_past d g.held) [] (g.rest ++ rest))
     (from n d g.held (g.rest ++ rest))
 
 feed : (n : ℕ) (d : Deck) (p bs : List ℕ) (b : ℕ) → eqb b 10 ≡ true
-    → from n d p (b ∷ bs) ≡ card_text (suc n) (entry_of p).line (outcome_on the_antenna count_limit d (entry_of p)) ++ from (suc n) (deck_after the_antenna count_limit d (entry_of p)) [] bs
+    → from n d p (b ∷ bs) ≡ text_on n d p ++ from (suc n) (deck_past d p) [] bs
 unfolding texts_of
 feed n d p bs b e =
     ap (texts_of n d) (joined_feed p bs b e)
-    ∙ ap (λ (ls : List (List ℕ)). card_text (suc n) (entry_of p).line (outcome_on the_antenna count_limit d (entry_of p)) ++ texts_of (suc n) (deck_after the_antenna count_limit d (entry_of p)) ls) (sym (joined-none (lines_of bs)))
+    ∙ ap (λ (ls : List (List ℕ)). text_on n d p ++ texts_of (suc n) (deck_past d p) ls) (sym (joined-none (lines_of bs)))
 
 gathers : (n : ℕ) (d : Deck) (p piece rest : List ℕ) → from n d p (piece ++ rest) ≡ after n d (gathered p piece) rest
 unfolding gathered
@@ -124,19 +134,20 @@ gathers n d p (b ∷ bs) rest = go (eqb b 10) refl (gathers n d (grown p b) bs r
     go false e i = ap (texts_of n d) (joined_byte p (bs ++ rest) b e) ∙ grown_same n d p (bs ++ rest) b ∙ i
 
 -- ---- a step writes the first part of what is still to be printed
-by_gathered : (s : State) (g : Gathered) (rest : List ℕ) → after s.listed s.deck g rest ≡ (step_by s g).text ++ remaining (step_by s g).state ((step_by s g).rest ++ rest)
+by_gathered : (s : State) (g : Gathered) (rest : List ℕ) → let t = step_by s g in
+    after s.listed s.deck g rest ≡ t.text ++ remaining t.state (t.rest ++ rest)
 unfolding remaining line_text after_line
 by_gathered s g rest = go g.whole
   where
-    go : (b : Bool) → after s.listed s.deck (record { whole = b; held = g.held; rest = g.rest }) rest
-        ≡ (step_by s (record { whole = b; held = g.held; rest = g.rest })).text ++ remaining (step_by s (record { whole = b; held = g.held; rest = g.rest })).state ((step_by s (record { whole = b; held = g.held; rest = g.rest })).rest ++ rest)
+    go : (b : Bool) → let h : Gathered = record { whole = b; held = g.held; rest = g.rest } in let t = step_by s h in
+        after s.listed s.deck h rest ≡ t.text ++ remaining t.state (t.rest ++ rest)
     go true =
         ap (λ (t : List ℕ). line_text s g.held ++ t)
-        (sym (counted_texts s.listed (deck_after the_antenna count_limit s.deck (entry_of g.held)) (joined [] (lines_of (g.rest ++ rest)))))
+        (sym (counted_texts s.listed (deck_past s.deck g.held) (joined [] (lines_of (g.rest ++ rest)))))
     go false = refl
 
-pub step_lists : (ready : Bool) (s : State) (piece rest : List ℕ)
-    → remaining s (piece ++ rest) ≡ (step_of ready s piece).text ++ remaining (step_of ready s piece).state ((step_of ready s piece).rest ++ rest)
+pub step_lists : (ready : Bool) (s : State) (piece rest : List ℕ) → let t = step_of ready s piece in
+    remaining s (piece ++ rest) ≡ t.text ++ remaining t.state (t.rest ++ rest)
 unfolding step_of remaining
 step_lists true s piece rest = gathers s.listed s.deck s.held piece rest ∙ by_gathered s (gathered s.held piece) rest
 step_lists false s piece rest = refl
@@ -164,7 +175,8 @@ part_is out out' t at b h e l =
     ∙ ap (take (b - at)) (drop_at (take at out) (t ++ drop (at + length t) out) at (length-take-le at out h))
     ∙ take_at t (drop (at + length t) out) (b - at) (sym n)
 
-remaining_calls : {s : S.Session} {line : List ℕ} {table : List Float} {bytes text : List ℕ} → CallsDone s line table bytes text → text ≡ remaining (state_in s line table) bytes
+remaining_calls : {s : S.Session} {line : List ℕ} {table : List Float} {bytes text : List ℕ}
+    → CallsDone s line table bytes text → text ≡ remaining (state_in s line table) bytes
 remaining_calls (finished s line table table' out out' at r ready x) =
     let h = (ready_is line table out at ready).room in
     part_is out out' (finish_text (is_ready line table out at) (state_in s line table)) at r (omega arith) x.text x.end

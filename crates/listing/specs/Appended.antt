@@ -10,3 +10,4 @@ pub record Appended (d : List ℕ) (a : ℕ) (t e : List ℕ) (b : ℕ) : Type 0
   pub fits : a + length t ≤ length d
   pub is : e ≡ overwritten d a t
   pub end : b ≡ a + length t
+  pub long : length e ≡ length d

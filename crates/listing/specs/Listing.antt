@@ -41,7 +41,8 @@ unfoldable pub texts_of : ℕ → Deck → List (List ℕ) → List ℕ
 unfolding entry_of card_text outcome_on deck_after
 texts_of n d [] = counts_text d.accepted d.refused
 texts_of n d (l ∷ ls) =
-    card_text (suc n) (entry_of l).line (outcome_on the_antenna count_limit d (entry_of l)) ++ texts_of (suc n) (deck_after the_antenna count_limit d (entry_of l)) ls
+    card_text (suc n) (entry_of l).line (outcome_on the_antenna count_limit d (entry_of l))
+    ++ texts_of (suc n) (deck_after the_antenna count_limit d (entry_of l)) ls
 
 unfoldable pub listing : List ℕ → List ℕ
 unfolding texts_of lines_of

@@ -21,6 +21,7 @@ use table::Table;
 const MOST_LISTED: u32 = 10_000_000;
 
 // vectors counts the same way in u64: no crate below both to share one comparison.
+#[tactic(auto, unfolding(crate::specs::Session::counted))]
 fn count(listed: u32) -> u32
     ensures { result ≡ counted listed }
 {
@@ -48,7 +49,8 @@ fn card_type(line: Option<Fields>) -> i32
 
 // Of an accepted card.
 fn rows(fields: Fields, table: &Table, to: &mut Writer)
-    requires { (fields_refusal fields ≡ 0) × HasRoom to.old 540 }
+    requires accepted { fields_refusal fields ≡ 0 }
+    requires room { HasRoom to.old 540 }
     ensures written { Written to.old (card_rows fields table.now) to.new }
     ensures upper_bound { to.new.at ≤ to.old.at + 540 }
 {
@@ -57,6 +59,7 @@ fn rows(fields: Fields, table: &Table, to: &mut Writer)
     to.rows(table, from, count);
 }
 
+#[tactic(auto, using(crate::proofs::Printed::heading_length))]
 pub(crate) fn list_line(
     session: Session,
     line: &[u8],

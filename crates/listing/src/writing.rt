@@ -43,6 +43,7 @@ impl Writer<'_> {
     }
 
     // The refusal is a number here, since that is what is printed.
+    #[tactic(auto, using(output::proofs::Field::field_length))]
     pub(crate) fn heading(&mut self, place: u32, kop: i32, refusal: u32)
         requires { HasRoom self.old 14 }
         ensures { Written self.old (heading_text place kop refusal) self.new }
@@ -53,6 +54,7 @@ impl Writer<'_> {
         self.line_feed();
     }
 
+    #[tactic(auto, using(output::proofs::Field::field_length, output::proofs::Printed::hundredths_field_length))]
     fn row(&mut self, table: &Table, m: usize)
         requires { (1 ≤ m) × (m ≤ row_count) × HasRoom self.old 18 }
         ensures { Written self.old (row_text table.now m) self.new }
@@ -75,6 +77,7 @@ impl Writer<'_> {
         }
     }
 
+    #[tactic(auto, using(output::proofs::Field::field_length))]
     pub(crate) fn counts(&mut self, accepted: u32, refused: u32)
         requires { HasRoom self.old 15 }
         ensures { Written self.old (counts_text accepted refused) self.new }

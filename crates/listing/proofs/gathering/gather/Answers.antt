@@ -1,15 +1,8 @@
-use Rattle.std.proofs.Common.{rules}
-use Rattle.listing.proofs.Pieces.{gather_start, gather_feed, gather_step, gather_end}
+use Rattle.listing.proofs.Pieces.{gather_feed, gather_step, gather_end}
 use Rattle.listing.proofs.gathering.gather.Goals as goal
-
-pub loop-i-init : goal.loop-i-init
-loop-i-init c = gather_start _ _ _ _ (search rules) c.held_in-len.ensures
 
 pub returns-then-piece-i-eq10 : goal.returns-then-piece-i-eq10
 returns-then-piece-i-eq10 c = gather_feed _ _ _ _ _ _ c.loop-i.invariant c.loop-i-test.true c.if-piece-i-eq10.true
-
-pub push-len-requires : goal.push-len-requires
-push-len-requires c = c.loop-i.invariant.low
 
 pub loop-i-preserved : goal.loop-i-preserved
 loop-i-preserved c = gather_step _ _ _ _ _ _ c.loop-i.invariant _ _ c.loop-i-test.true c.if-piece-i-eq10.false c.push-len.ensures

@@ -2,7 +2,6 @@ use Rattle.std.proofs.Common.{refl, [], arith, rules}
 use Rattle.std.proofs.lemmas.Bool.{iff_false}
 use Rattle.std.proofs.lemmas.Option.{MatchOption-at_none}
 use Rattle.listing.specs.Ready.{Ready}
-use Rattle.listing.proofs.Buffer.{long}
 use Rattle.listing.proofs.Sessions.{finish_idle, finish_empty, finish_held}
 use Rattle.listing.proofs.session.finish.Goals as goal
 use Rattle.listing.proofs.session.finish.Goals.{In-Some-as_mut_array}
@@ -18,15 +17,18 @@ returns-in_default-as_mut_array c = finish_idle _ _ _ _ _ (λ r. MatchOption-at_
 
 -- past the three tests
 ready : (c : In-Some-as_mut_array) → let a = c.args in Ready a.line.now a.table.now a.out.now a.at
-ready c = record { line_length = c.in-Some.ensures.cases.long; table_len = c.in-Some-as_mut_array.ensures.cases.long; room = c.has_room.ensures.0 c.if-not-has_room.false }
+ready c =
+    let table = c.in-Some-as_mut_array.ensures.cases in
+    record { line_length = c.in-Some.ensures.cases.long; table_len = table.long; room = c.has_room.ensures.0 c.if-not-has_room.false }
 
 pub returns-then-held-eq0 : goal.returns-then-held-eq0
 returns-then-held-eq0 c =
+    let r = ready (goal.at.returns-then-held-eq0 c).In-Some-as_mut_array in
     rw c.in-Some-as_mut_array.ensures.cases.same
-    (finish_empty _ _ _ _ _ (ready (goal.at.returns-then-held-eq0 c).In-Some-as_mut_array) _ _ _ _ c.held_in-held.ensures c.if-held-eq0.true refl refl c.counts.ensures (search rules))
+    (finish_empty _ _ _ _ _ r _ _ _ _ c.held_in-held.ensures c.if-held-eq0.true refl refl c.counts.ensures (search rules))
 
 pub counts-requires-2 : goal.counts-requires-2
-counts-requires-2 c = omega (arith, c.list_line-last.ensures.within, long (c.list_line-last.ensures.text []).text, c.has_room.ensures.0 c.if-not-has_room.false)
+counts-requires-2 c = omega (arith, c.list_line-last.ensures.within, (c.list_line-last.ensures.text []).text.long, c.has_room.ensures.0 c.if-not-has_room.false)
 
 pub returns : goal.returns
 returns c =

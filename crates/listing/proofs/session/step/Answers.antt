@@ -19,14 +19,19 @@ returns-in_default-as_mut_array c =
 
 -- past the three tests
 ready : (c : In-Some-as_mut_array) → let a = c.args in Ready a.line.now a.table.now a.out.now a.at
-ready c = record { line_length = c.in-Some.ensures.cases.long; table_len = c.in-Some-as_mut_array.ensures.cases.long; room = c.has_room.ensures.0 c.if-not-has_room.false }
+ready c =
+    let table = c.in-Some-as_mut_array.ensures.cases in
+    record { line_length = c.in-Some.ensures.cases.long; table_len = table.long; room = c.has_room.ensures.0 c.if-not-has_room.false }
 
 pub returns-in_default-end : goal.returns-in_default-end
 returns-in_default-end c =
-    rw c.in-Some-as_mut_array.ensures.cases.same
-    (step_part _ _ _ _ _ _ _ c.gather-held.result (ready (goal.at.returns-in_default-end c).In-Some-as_mut_array) (rw c.in-Some.ensures.cases.same at c.gather-held.ensures) (search rules) c.in_default-end.is)
+    let r = ready (goal.at.returns-in_default-end c).In-Some-as_mut_array in
+    let gathered = rw c.in-Some.ensures.cases.same at c.gather-held.ensures in
+    rw c.in-Some-as_mut_array.ensures.cases.same (step_part _ _ _ _ _ _ _ c.gather-held.result r gathered (search rules) c.in_default-end.is)
 
 pub returns : goal.returns
 returns c =
-    step_whole _ _ _ _ _ _ _ c.gather-held.result (ready (goal.at.returns c).In-Some-as_mut_array) (rw c.in-Some.ensures.cases.same at c.gather-held.ensures) (search rules)
-    _ _ _ _ _ _ _ c.in-Some-end.is refl refl (rw c.in-Some-as_mut_array.ensures.cases.same at c.list_line-next.ensures) (search rules) (search rules)
+    let r = ready (goal.at.returns c).In-Some-as_mut_array in
+    let gathered = rw c.in-Some.ensures.cases.same at c.gather-held.ensures in
+    let listed = rw c.in-Some-as_mut_array.ensures.cases.same at c.list_line-next.ensures in
+    step_whole _ _ _ _ _ _ _ c.gather-held.result r gathered (search rules) _ _ _ _ _ _ _ c.in-Some-end.is refl refl listed (search rules) (search rules)

@@ -6,4 +6,6 @@ use Rattle.listing.proofs.Printed.{handed}
 use Rattle.listing.proofs.writing.Writer.integer.Goals as goal
 
 pub returns : goal.returns
-returns c = handed _ _ c.ranges.v (record { same_buffer = refl; text = field (integer_field (to_z w64 (of_z w64 c.args.v))) _ _ _ _ (field_length _ _) c.requires c.i.ensures })
+returns c =
+    let text = integer_field (to_z w64 (of_z w64 c.args.v)) in
+    handed _ _ c.ranges.v (record { same_buffer = refl; text = field text _ _ _ _ (field_length _ _) c.requires c.i.ensures })

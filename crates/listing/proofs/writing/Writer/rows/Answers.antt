@@ -1,5 +1,5 @@
 use Rattle.std.proofs.Common.{◌<◌, arith}
-use Rattle.listing.proofs.Printed.{rows_start, rows_room, rows_step, rows_end}
+use Rattle.listing.proofs.Printed.{rows_start, rows_room, rows_step}
 use Rattle.listing.proofs.writing.Writer.rows.Goals as goal
 
 pub loop-m-init : goal.loop-m-init
@@ -12,6 +12,3 @@ row-requires c =
 
 pub loop-m-preserved : goal.loop-m-preserved
 loop-m-preserved c = rows_step c.loop-m.auto.m c.loop-m.invariant c.row.ensures
-
-pub returns : goal.returns
-returns c = rows_end c.args.count c.loop-m.invariant (omega (arith, c.loop-m.auto.m-end, c.loop-m-test.false))
