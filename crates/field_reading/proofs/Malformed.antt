@@ -41,7 +41,8 @@ unspaced_read : (most : ℕ) (l : List ℕ) → is_some (unspaced most l) ≡ is
 unfolding unspaced is_unspaced
 unspaced_read most l = go (eqb (get_or l 0 0) 45)
   where
-    go : (minus : Bool) → is_some (cond minus (with_sign true (digits_of most (drop 1 l))) (with_sign false (digits_of most l))) ≡ cond minus (is_digits most (drop 1 l)) (is_digits most l)
+    go : (minus : Bool) → is_some (cond minus (with_sign true (digits_of most (drop 1 l))) (with_sign false (digits_of most l)))
+        ≡ cond minus (is_digits most (drop 1 l)) (is_digits most l)
     go true = sign_read true (digits_of most (drop 1 l)) ∙ digits_read most (drop 1 l)
     go false = sign_read false (digits_of most l) ∙ digits_read most l
 

@@ -18,64 +18,85 @@ use Rattle.field_reading.specs.Digits.{digits_of, unspaced, signed_of}
 use Rattle.field_reading.specs.Integer.{integer, integer_of}
 use Rattle.field_reading.specs.Decimal.{ten_thousandths, pointed, decimal_of}
 use Rattle.single.proofs.Integers.{as_i64_fits, as_i64, negated_fits, negated_i64}
-use Rattle.field_reading.proofs.Steps.{to_end}
+use Rattle.std.proofs.lemmas.List.{take_rest}
 use Rattle.field_reading.proofs.Sizes.{digits_below, signed_below, bound, signed_bound}
 
--- ---- a decimal: p is its point's column, x what was read before it, y what was read after it
+-- ---- a decimal: p is its point's column
+module _ (l : List ℕ) (p : ℕ) (w : 5 ≤ length l) (q : p ≡ length l - 5) where
+  abbrev front : Option Signed
+  front = signed_of 4 (take p l)
+
+  abbrev back : Option ℕ
+  back = digits_of 4 (take (length l - (p + 1)) (drop (p + 1) l))
+
+  parted : pointed front (get_or l p 0) back ≡ decimal_of l
+  unfolding decimal_of
+  parted =
+      let e : p + 1 ≡ length l - 4 = omega arith in
+      rw (take_rest l (p + 1), e, q) refl
+
+  pub no_front : None ≡ front → None ≡ decimal_of l
+  unfolding pointed
+  no_front e = ap (λ (x : Option Signed). pointed x (get_or l p 0) back) e ∙ parted
+
+  pub no_back : None ≡ back → None ≡ decimal_of l
+  unfolding pointed
+  no_back e = sym (none front) ∙ ap (pointed front (get_or l p 0)) e ∙ parted
+    where
+      none : (x : Option Signed) → pointed x (get_or l p 0) None ≡ None
+      none (Some s) = refl
+      none None = refl
+
+  pub no_point : (get_or l p 0 ≡ 46 → ⊥) → None ≡ decimal_of l
+  unfolding pointed
+  no_point z = sym (none front back) ∙ parted
+    where
+      none : (x : Option Signed) (y : Option ℕ) → pointed x (get_or l p 0) y ≡ None
+      none (Some s) (Some b) = rw (ne_eqb (get_or l p 0) 46 z) refl
+      none (Some s) None = refl
+      none None y = refl
+
+  pub value : (s : Signed) (b : ℕ) (v : Float) → Some s ≡ front → Some b ≡ back → get_or l p 0 ≡ 46
+      → v ≡ ten_thousandths s.minus (s.magnitude * 10000 + b) → Some v ≡ decimal_of l
+  unfolding pointed
+  value s b v e f z t = at ∙ (λ i. pointed (e i) (get_or l p 0) (f i)) ∙ parted
+    where
+      at : Some v ≡ pointed (Some s) (get_or l p 0) (Some b)
+      at = rw (eq-eqb (get_or l p 0) 46 z) (ap Some t)
+
 pub too_short : (l : List ℕ) → (5 ≤ length l → ⊥) → None ≡ decimal_of l
 unfolding decimal_of pointed signed_of unspaced digits_of
 too_short l h = let z : length l - 5 ≡ 0 = omega arith in rw z refl
 
-module _ (l : List ℕ) (p : ℕ) (w : 5 ≤ length l) (q : p ≡ length l - 5) (x : Option Signed) (e : x ≡ signed_of 4 (take p l)) where
-  column : length l - 5 ≡ p
-  column = sym q
+pub front_below : (l : List ℕ) (s : Signed) → Some s ≡ signed_of 4 l → s.magnitude < 10000
+front_below l s e = signed_bound (Some s) s 10000 (signed_of 4 l) e refl (signed_below 4 l)
 
-  pub no_front : x ≡ None → None ≡ decimal_of l
-  unfolding decimal_of pointed
-  no_front f = rw (column, ← e, f) refl
+pub back_below : (l : List ℕ) (n : ℕ) → Some n ≡ digits_of 4 l → n < 10000
+back_below l n e = bound (Some n) n 10000 (digits_of 4 l) e refl (digits_below 4 l)
 
-  module _ (s : Signed) (f : x ≡ Some s) (y : Option ℕ) (g : y ≡ digits_of 4 (take (length l - (p + 1)) (drop (p + 1) l))) where
-    back : digits_of 4 (drop (length l - 4) l) ≡ y
-    back = ap (λ (k : ℕ). digits_of 4 (drop k l)) (let z : length l - 4 ≡ p + 1 = omega arith in z) ∙ ap (digits_of 4) (sym (to_end l (p + 1))) ∙ sym g
-
-    pub a_below : s.magnitude < 10000
-    a_below = signed_bound x s 10000 (signed_of 4 (take p l)) e f (signed_below 4 (take p l))
-
-    pub no_back : y ≡ None → None ≡ decimal_of l
-    unfolding decimal_of pointed
-    no_back h = rw (column, ← e, f, back, h) refl
-
-    module _ (b : ℕ) (h : y ≡ Some b) where
-      pub b_below : b < 10000
-      b_below = bound y b 10000 (digits_of 4 (take (length l - (p + 1)) (drop (p + 1) l))) g h (digits_below 4 (take (length l - (p + 1)) (drop (p + 1) l)))
-
-      pub no_point : (get_or l p 0 ≡ 46 → ⊥) → None ≡ decimal_of l
-      unfolding decimal_of pointed
-      no_point z = rw (column, ← e, f, back, h, ne_eqb (get_or l p 0) 46 z) refl
-
-      pub value : (v : Float) → get_or l p 0 ≡ 46 → v ≡ ten_thousandths s.minus (s.magnitude * 10000 + b) → Some v ≡ decimal_of l
-      unfolding decimal_of pointed
-      value v z t = rw (column, ← e, f, back, h, eq-eqb (get_or l p 0) 46 z) (ap Some t)
+pub ruleset decimal_bounds = (front_below, back_below)
 
 -- ---- an integer
-module _ (l : List ℕ) (x : Option Signed) (e : x ≡ signed_of 18 l) where
-  pub no_integer : x ≡ None → None ≡ integer_of l
-  unfolding integer_of integer
-  no_integer f = rw (← e, f) refl
+below_i64 : (l : List ℕ) (s : Signed) → Some s ≡ signed_of 18 l → s.magnitude < 2 ^ 63
+below_i64 l s e = lt_of_lt_of_le (signed_bound (Some s) s (10 ^ 18) (signed_of 18 l) e refl (signed_below 18 l)) (lit≤ tt)
 
-  below_i64 : (s : Signed) → x ≡ Some s → s.magnitude < 2 ^ 63
-  below_i64 s f = lt_of_lt_of_le (signed_bound x s (10 ^ 18) (signed_of 18 l) e f (signed_below 18 l)) (lit≤ tt)
+pub casts : (l : List ℕ) (s : Signed) → Some s ≡ signed_of 18 l → SFits w64 (pos s.magnitude)
+casts l s e = as_i64_fits s.magnitude (below_i64 l s e)
 
-  pub casts : (s : Signed) → x ≡ Some s → SFits w64 (pos s.magnitude)
-  casts s f = as_i64_fits s.magnitude (below_i64 s f)
+pub turns : (l : List ℕ) (s : Signed) → Some s ≡ signed_of 18 l → SFits w64 (pos 0 -ℤ to_z w64 s.magnitude)
+turns l s e = negated_fits s.magnitude (below_i64 l s e)
 
-  pub turns : (s : Signed) → x ≡ Some s → SFits w64 (pos 0 -ℤ to_z w64 s.magnitude)
-  turns s f = negated_fits s.magnitude (below_i64 s f)
+pub ruleset integer_bounds = (casts, turns)
 
-  pub negative : (s : Signed) → x ≡ Some s → s.minus ≡ true → Some (to_z w64 (of_z w64 (pos 0 -ℤ to_z w64 s.magnitude))) ≡ integer_of l
-  unfolding integer_of integer
-  negative s f t = rw (← e, f, t) (ap Some (negated_i64 s.magnitude (below_i64 s f)))
+pub no_integer : (l : List ℕ) → None ≡ signed_of 18 l → None ≡ integer_of l
+unfolding integer_of integer
+no_integer l e = rw (← e) refl
 
-  pub positive : (s : Signed) → x ≡ Some s → s.minus ≡ false → Some (to_z w64 s.magnitude) ≡ integer_of l
-  unfolding integer_of integer
-  positive s f t = rw (← e, f, t) (ap Some (as_i64 s.magnitude (below_i64 s f)))
+pub negative : (l : List ℕ) (s : Signed) → Some s ≡ signed_of 18 l → s.minus ≡ true
+    → Some (to_z w64 (of_z w64 (pos 0 -ℤ to_z w64 s.magnitude))) ≡ integer_of l
+unfolding integer_of integer
+negative l s e t = rw (← e, t) (ap Some (negated_i64 s.magnitude (below_i64 l s e)))
+
+pub positive : (l : List ℕ) (s : Signed) → Some s ≡ signed_of 18 l → s.minus ≡ false → Some (to_z w64 s.magnitude) ≡ integer_of l
+unfolding integer_of integer
+positive l s e t = rw (← e, t) (ap Some (as_i64 s.magnitude (below_i64 l s e)))

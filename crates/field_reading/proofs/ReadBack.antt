@@ -16,7 +16,8 @@ use Rattle.field_reading.specs.Integer.{integer, integer_of}
 use Rattle.output.proofs.Field.{turn, last, longer}
 
 -- induction on the digits: a number below 10, or one whose tenth has the property
-by_tens : (P : ℕ → ℕ → Type 0) → ((k n : ℕ) → n < 10 → P k n) → ((k n : ℕ) → 10 ≤ n → n ≤ suc k → P k (n / 10) → P (suc k) n) → (k n : ℕ) → n ≤ k → P k n
+by_tens : (P : ℕ → ℕ → Type 0) → ((k n : ℕ) → n < 10 → P k n)
+    → ((k n : ℕ) → 10 ≤ n → n ≤ suc k → P k (n / 10) → P (suc k) n) → (k n : ℕ) → n ≤ k → P k n
 by_tens P small large zero n h = small zero n (omega arith)
 by_tens P small large (suc k) n h = go (ltb n 10) refl (λ (l : 10 ≤ n). by_tens P small large k (n / 10) (omega arith))
   where
@@ -42,7 +43,8 @@ spells = by_tens (λ (k n : ℕ). (t : List ℕ) → read_on 0 (spelled k (ltb n
     small : (k n : ℕ) → n < 10 → (t : List ℕ) → read_on 0 (spelled k (ltb n 10) n t) ≡ read_on n t
     small k n h t = ap (read_on 0) (last k n t h) ∙ digit 0 n t h ∙ ap (λ (x : ℕ). read_on x t) (let z : 0 * 10 + n ≡ n = omega arith in z)
 
-    large : (k n : ℕ) → 10 ≤ n → n ≤ suc k → ((t : List ℕ) → read_on 0 (spelled k (ltb (n / 10) 10) (n / 10) t) ≡ read_on (n / 10) t) → (t : List ℕ) → read_on 0 (spelled (suc k) (ltb n 10) n t) ≡ read_on n t
+    large : (k n : ℕ) → 10 ≤ n → n ≤ suc k → ((t : List ℕ) → read_on 0 (spelled k (ltb (n / 10) 10) (n / 10) t) ≡ read_on (n / 10) t)
+        → (t : List ℕ) → read_on 0 (spelled (suc k) (ltb n 10) n t) ≡ read_on n t
     large k n h l rec t =
         ap (read_on 0) (next k n t h l)
         ∙ rec ((48 + n % 10) ∷ t)
@@ -74,7 +76,8 @@ begins = by_tens (λ (k n : ℕ). (t : List ℕ) → Begins (spelled k (ltb n 10
     small : (k n : ℕ) → n < 10 → (t : List ℕ) → Begins (spelled k (ltb n 10) n t)
     small k n h t = subst (λ (l : List ℕ). Begins l) (sym (last k n t h)) (omega arith, omega arith)
 
-    large : (k n : ℕ) → 10 ≤ n → n ≤ suc k → ((t : List ℕ) → Begins (spelled k (ltb (n / 10) 10) (n / 10) t)) → (t : List ℕ) → Begins (spelled (suc k) (ltb n 10) n t)
+    large : (k n : ℕ) → 10 ≤ n → n ≤ suc k → ((t : List ℕ) → Begins (spelled k (ltb (n / 10) 10) (n / 10) t))
+        → (t : List ℕ) → Begins (spelled (suc k) (ltb n 10) n t)
     large k n h l rec t = subst (λ (l : List ℕ). Begins l) (sym (next k n t h l)) (rec ((48 + n % 10) ∷ t))
 
 -- ---- the spaces

@@ -1,10 +1,11 @@
 -- n / 10000 rounded to an f32, from n * 2 ^ (149 - k) with 24 digits before the point. Assumes nothing.
-use mathlib.Core.Path.{◌≡◌, sym, ap, subst, ◌∙◌}
+use mathlib.Core.Path.{◌≡◌, refl, sym, ap, subst, ◌∙◌}
 use mathlib.Core.Bool.{true, false}
 use Prim.Native.Nat.{ℕ, zero, suc, ◌+◌, ◌-◌, ◌*◌, ◌/◌, ◌%◌, ◌^◌, ◌≤◌, ◌<◌, compare}
 use native.Mathlib.Omega.{arith}
 use native.Mathlib.Numerals.{sub-one}
-use native.Mathlib.Nat.{mul-one, mul_assoc, mul_comm, mul_right_comm, mul-pos, mul-le-mul_right, mul-lt-mul_of_pos_right, le_trans, lt_of_lt_of_le, not-le_of_lt, div-lt_iff_lt-mul, le-div_iff_mul-le, le_of_eq, pow-succ'}
+use native.Mathlib.Nat.{mul-one, mul_assoc, mul_comm, mul_right_comm, mul-pos, mul-le-mul_right, mul-lt-mul_of_pos_right}
+use native.Mathlib.Nat.{le_trans, lt_of_lt_of_le, not-le_of_lt, div-lt_iff_lt-mul, le-div_iff_mul-le, le_of_eq, pow-succ'}
 use lib.Dec.{lit<, lit≤}
 use lib.Pow.{pow_pos, pow-add}
 use lib.Ieee.{Float, neg, binary32, size, units, round, of_bits}
@@ -15,6 +16,7 @@ use Rattle.field_reading.specs.Decimal.{ten_thousandths}
 use Rattle.single.proofs.Value.{round_neg}
 use borrow.Author.Tests.{lt-ltb, le-ltb}
 use Rattle.single.proofs.Digits.{size_is}
+use Rattle.single.proofs.Sign.{finite_bits}
 use Rattle.single.proofs.Units.{units_bits}
 use Rattle.single.proofs.Compare.{nearest_down, nearest_up, nearest_even}
 
@@ -39,17 +41,18 @@ scaling_step n m zero p s h = absurd (not-le_of_lt (lit< tt) (above n m zero p s
 scaling_step n m (suc k) p s h =
     let a = s.some in
     let b : suc k ≤ 139 = s.low in
-    rw (sub-one (suc k)) (record { some = omega arith; low = omega arith; high = omega arith; is = mul_assoc m 2 (2 ^ k) ∙ ap (λ (x : ℕ). m * x) (sym (pow-succ' 2 k)) ∙ s.is })
+    let is : m * 2 * 2 ^ k ≡ n * 2 ^ 149 = mul_assoc m 2 (2 ^ k) ∙ ap (λ (x : ℕ). m * x) (sym (pow-succ' 2 k)) ∙ s.is in
+    rw (sub-one (suc k)) (record { some = omega arith; low = omega arith; high = omega arith; is = is })
 
 -- ---- the result
+pub near_hi : (m : ℕ) → m < 167772160000 → nearest_whole m ≤ 16777216
+unfolding nearest_whole
+near_hi m h = let z : suc (m / 10000) ≤ 16777216 = omega arith in le_trans (nearest-le (m / 10000) (compare (m % 10000 * 2) 10000)) z
+
 module _ (n m k : ℕ) (s : Scaling n m k) (l : 83886080000 ≤ m) where
   near_lo : 2 ^ 23 ≤ nearest_whole m
   unfolding nearest_whole
   near_lo = let z : 8388608 ≤ m / 10000 = omega arith in le_trans z (nearest-ge (m / 10000) (compare (m % 10000 * 2) 10000))
-
-  pub near_hi : nearest_whole m ≤ 2 ^ 24
-  unfolding nearest_whole
-  near_hi = let h = s.high in let z : suc (m / 10000) ≤ 16777216 = omega arith in le_trans (nearest-le (m / 10000) (compare (m % 10000 * 2) 10000)) z
 
   abbrev w : ℕ
   w = n * 2 ^ 149 / 10000
@@ -62,9 +65,10 @@ module _ (n m k : ℕ) (s : Scaling n m k) (l : 83886080000 ≤ m) where
 
   w_hi : w < 2 ^ suc (23 + k)
   w_hi =
+      let one_more : 24 + k ≡ suc (23 + k) = omega arith in
       (div-lt_iff_lt-mul (lit< {m = 0} {n = 10000} tt)).1
       (lt_of_lt_of_le (subst (λ (x : ℕ). x < 167772160000 * 2 ^ k) s.is (mul-lt-mul_of_pos_right s.high (pow_pos k)))
-      (le_of_eq (sym (ap (λ (x : ℕ). x * 10000) (ap (λ (x : ℕ). 2 ^ x) (let z : suc (23 + k) ≡ 24 + k = omega arith in z) ∙ pow-add 2 24 k) ∙ mul_right_comm (2 ^ 24) (2 ^ k) 10000))))
+      (le_of_eq (mul_right_comm (2 ^ 24) 10000 (2 ^ k) ∙ ap (λ (x : ℕ). x * 10000) (sym (pow-add 2 24 k) ∙ ap (λ (x : ℕ). 2 ^ x) one_more))))
 
   pub rounds : round binary32 false n 10000 ≡ of_bits binary32 (k * 8388608 + nearest_whole m)
   unfolding nearest_whole
@@ -73,9 +77,10 @@ module _ (n m k : ℕ) (s : Scaling n m k) (l : 83886080000 ≤ m) where
       let low = s.low in
       round_is binary32 false n 10000
       ∙ ap (λ (x : ℕ). units binary32 false (closest (n * 2 ^ 149) (10000 * 2 ^ x)) x) d
-      ∙ ap (λ (x : ℕ). units binary32 false x k) (closest_same (n * 2 ^ 149) (10000 * 2 ^ k) m 10000 (mul-pos (lit< {m = 0} {n = 10000} tt) (pow_pos k)) (lit< {m = 0} {n = 10000} tt)
+      ∙ ap (λ (x : ℕ). units binary32 false x k)
+      (closest_same (n * 2 ^ 149) (10000 * 2 ^ k) m 10000 (mul-pos (lit< {m = 0} {n = 10000} tt) (pow_pos k)) (lit< {m = 0} {n = 10000} tt)
       (ap (λ (x : ℕ). x * 10000) (sym s.is) ∙ mul_assoc m (2 ^ k) 10000 ∙ ap (λ (x : ℕ). m * x) (mul_comm (2 ^ k) 10000)))
-      ∙ units_bits (nearest_whole m) k near_lo near_hi (omega arith)
+      ∙ units_bits (nearest_whole m) k near_lo (near_hi m s.high) (omega arith)
 
 -- ---- what the tests on the remainder tell
 pub near_down : (m : ℕ) → m % 10000 * 2 < 10000 → m / 10000 ≡ nearest_whole m
@@ -102,3 +107,13 @@ minus x n e h = rw (lt-ltb 0 n h) (ap neg e ∙ round_neg false n 10000)
 pub no_minus : (x : Float) (n : ℕ) → x ≡ round binary32 false n 10000 → n ≤ 0 → x ≡ ten_thousandths true n
 unfolding ten_thousandths
 no_minus x n e h = rw (le-ltb 0 n h) e
+
+pub nothing : (n : ℕ) → n ≡ 0 → of_bits binary32 0 ≡ round binary32 false n 10000
+unfolding round of_bits
+nothing n e = rw e refl
+
+pub ruleset nearest_found = (near_down, near_up, near_even)
+
+pub ruleset scaled = (nothing, scaling_starts, scaling_step, near_hi, rounds, finite_bits)
+
+pub ruleset signed_answers = (plus, minus, no_minus)

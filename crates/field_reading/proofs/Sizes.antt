@@ -41,13 +41,15 @@ unfolding read_on
 read_below n [] = omega arith
 read_below n (b ∷ l) = go (leb 48 b && leb b 57) refl (read_below (n * 10 + (b - 48)) l)
   where
-    go : (t : Bool) → leb 48 b && leb b 57 ≡ t → Below (read_on (n * 10 + (b - 48)) l) ((n * 10 + (b - 48) + 1) * 10 ^ length l) → Below (cond t (read_on (n * 10 + (b - 48)) l) None) ((n + 1) * 10 ^ suc (length l))
+    go : (t : Bool) → leb 48 b && leb b 57 ≡ t → Below (read_on (n * 10 + (b - 48)) l) ((n * 10 + (b - 48) + 1) * 10 ^ length l)
+        → Below (cond t (read_on (n * 10 + (b - 48)) l) None) ((n + 1) * 10 ^ suc (length l))
     go false e rec = tt
     go true e rec =
         let h : b ≤ 57 = leb-true b 57 (and_right (leb 48 b) (leb b 57) e) in
+        let z : n * 10 + (b - 48) + 1 ≤ (n + 1) * 10 = omega arith in
+        let e = mul_assoc (n + 1) 10 (10 ^ length l) ∙ ap (λ (x : ℕ). (n + 1) * x) (sym (pow-succ' 10 (length l))) in
         grows (read_on (n * 10 + (b - 48)) l) ((n * 10 + (b - 48) + 1) * 10 ^ length l) ((n + 1) * 10 ^ suc (length l))
-        (le_trans (mul-le-mul_right (10 ^ length l) (let z : n * 10 + (b - 48) + 1 ≤ (n + 1) * 10 = omega arith in z)) (le_of_eq (mul_assoc (n + 1) 10 (10 ^ length l) ∙ ap (λ (x : ℕ). (n + 1) * x) (sym (pow-succ' 10 (length l))))))
-        rec
+        (le_trans (mul-le-mul_right (10 ^ length l) z) (le_of_eq e)) rec
 
 -- by the columns, and by the most digits
 all-below : (l : List ℕ) → Below (read_on 0 l) (10 ^ length l)
@@ -70,20 +72,25 @@ digits_below most l = go (leb 1 (length l) && leb (length l) most) refl
     go true e = wider (read_on 0 l) (length l) most (leb-true (length l) most (and_right (leb 1 (length l)) (leb (length l) most) e)) (all-below l)
 
 -- what bounds digits bounds a signed number
-signed_from : (most k : ℕ) (l : List ℕ) → ((t : List ℕ) → length t ≤ length l → Below (digits_of most t) k) → SignedBelow (signed_of most l) k
+signed_from : (most k : ℕ) (l : List ℕ) → ((t : List ℕ) → length t ≤ length l → Below (digits_of most t) k)
+    → SignedBelow (signed_of most l) k
 unfolding signed_of unspaced
-signed_from most k l f = go (eqb (get_or (drop (spaces_of l) l) 0 0) 45)
+signed_from most k l f = go (eqb (get_or t 0 0) 45)
   where
+    t : List ℕ
+    t = drop (spaces_of l) l
+
     with : (minus : Bool) (r : Option ℕ) → Below r k → SignedBelow (with_sign minus r) k
     with minus (Some n) h = h
     with minus None h = tt
 
-    go : (t : Bool) → SignedBelow (cond t (with_sign true (digits_of most (drop 1 (drop (spaces_of l) l)))) (with_sign false (digits_of most (drop (spaces_of l) l)))) k
-    go true = with true _ (f (drop 1 (drop (spaces_of l) l)) (omega (arith, length-drop 1 (drop (spaces_of l) l), length-drop (spaces_of l) l)))
-    go false = with false _ (f (drop (spaces_of l) l) (omega (arith, length-drop (spaces_of l) l)))
+    go : (minus : Bool) → SignedBelow (cond minus (with_sign true (digits_of most (drop 1 t))) (with_sign false (digits_of most t))) k
+    go true = with true _ (f (drop 1 t) (omega (arith, length-drop 1 t, length-drop (spaces_of l) l)))
+    go false = with false _ (f t (omega (arith, length-drop (spaces_of l) l)))
 
 pub signed_within : (most : ℕ) (l : List ℕ) → SignedBelow (signed_of most l) (10 ^ length l)
-signed_within most l = signed_from most (10 ^ length l) l (λ (t : List ℕ) (h : length t ≤ length l). wider (digits_of most t) (length t) (length l) h (digits_within most t))
+signed_within most l =
+    signed_from most (10 ^ length l) l (λ (t : List ℕ) (h : length t ≤ length l). wider (digits_of most t) (length t) (length l) h (digits_within most t))
 
 pub signed_below : (most : ℕ) (l : List ℕ) → SignedBelow (signed_of most l) (10 ^ most)
 signed_below most l = signed_from most (10 ^ most) l (λ (t : List ℕ) (h : length t ≤ length l). digits_below most t)

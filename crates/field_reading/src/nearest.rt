@@ -6,6 +6,7 @@ ghost use Rattle.field_reading.specs.Decimal.{ten_thousandths};
 ghost use Rattle.field_reading.specs.Nearest.{nearest_whole};
 
 // m / 10000 to the nearest whole number, at a tie the even one.
+#[tactic(auto, using(crate::proofs::Round::nearest_found))]
 fn rounded(m: u64) -> u64
     requires { m < 167772160000 }
     ensures { result ≡ nearest_whole m }
@@ -22,6 +23,7 @@ fn rounded(m: u64) -> u64
 }
 
 // m * 2^k is n * 2^149 throughout; at the end m / 10000 has 24 binary digits before the point.
+#[tactic(auto, using(crate::proofs::Round::scaled))]
 fn quotient(n: u64) -> f32
     requires { n < 100000000 }
     ensures { result ≡ round binary32 false n 10000 }
@@ -40,6 +42,7 @@ fn quotient(n: u64) -> f32
 }
 
 // n / 10000 with its sign; minus zero is zero.
+#[tactic(auto, using(crate::proofs::Round::signed_answers))]
 pub(crate) fn ten_thousandths(minus: bool, n: u64) -> f32
     requires { n < 100000000 }
     ensures { result ≡ ten_thousandths minus n }

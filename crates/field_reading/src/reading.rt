@@ -25,6 +25,7 @@ fn spaces(s: &[u8]) -> usize
 }
 
 // 1 to `most` digits, and nothing else.
+#[tactic(auto, using(crate::proofs::Steps::digits_read))]
 fn digits(s: &[u8], most: usize) -> Option<u64>
     requires { most ≤ 18 }
     ensures { result ≡ digits_of most s.now }
@@ -34,7 +35,7 @@ fn digits(s: &[u8], most: usize) -> Option<u64>
     }
     let mut n: u64 = 0;
     for b in s {
-        if *b < b'0' || b'9' < *b {
+        if !b.is_ascii_digit() {
             return None;
         }
         n = n * 10 + (*b - b'0') as u64;
@@ -43,6 +44,7 @@ fn digits(s: &[u8], most: usize) -> Option<u64>
 }
 
 // Spaces, an optional minus, 1 to `most` digits.
+#[tactic(auto, using(crate::proofs::Steps::signs_read))]
 fn signed_digits(s: &[u8], most: usize) -> Option<Signed>
     requires { most ≤ 18 }
     ensures { result ≡ signed_of most s.now }
@@ -55,6 +57,7 @@ fn signed_digits(s: &[u8], most: usize) -> Option<Signed>
 }
 
 // An integer field of any width, of at most 18 digits.
+#[tactic(auto, using(crate::proofs::Parts::integer_bounds))]
 pub fn read_integer(s: &[u8]) -> Option<i64>
     ensures { IsAnswer integer_number integer_value (pos 0) 8 (integer_of s.now) (is_integer s.now) result }
 {
@@ -64,6 +67,7 @@ pub fn read_integer(s: &[u8]) -> Option<i64>
 }
 
 // A decimal field of any width: spaces, an optional minus, 1 to 4 digits, a point, 4 digits.
+#[tactic(auto, using(crate::proofs::Parts::decimal_bounds))]
 pub fn read_decimal(s: &[u8]) -> Option<f32>
     ensures { IsAnswer decimal_number decimal_value (fin false 0 (pos 0)) 8 (decimal_of s.now) (is_decimal s.now) result }
 {
