@@ -37,18 +37,24 @@ module _ (d : Deck) (t : List Float) where
   refuses {r} {e} j is z = number_not_zero e (sym (refused j is) ∙ z)
 
   -- by what the code is answered of the deck and the table
-  pub state_refuses : {r : Result Unit Refusal} {e : Refusal} (f : Fields) → IsJudged (deck_refusal d t) r → r ≡ Err e → number_of e ≡ refusal_before_work the_antenna count_limit d f t
+  pub state_refuses : {r : Result Unit Refusal} {e : Refusal} (f : Fields) → IsJudged (deck_refusal d t) r → r ≡ Err e
+      → number_of e ≡ refusal_before_work the_antenna count_limit d f t
   unfolding refusal_before_work deck_refusal first_refusal
   state_refuses f j is = sym (refused j is) ∙ sym ((first counts (not (finite d.height)) (not (is_table t)) _).0 (refuses j is))
 
-  pub fields_refuse : {r : Result Unit Refusal} {u : Unit {0}} (f : Fields) → IsJudged (deck_refusal d t) r → r ≡ Ok u → refusal_before_work the_antenna count_limit d f t ≡ fields_refusal f
+  pub fields_refuse : {r : Result Unit Refusal} {u : Unit {0}} (f : Fields) → IsJudged (deck_refusal d t) r → r ≡ Ok u
+      → refusal_before_work the_antenna count_limit d f t ≡ fields_refusal f
   unfolding refusal_before_work deck_refusal first_refusal
   fields_refuse f j is = (first counts (not (finite d.height)) (not (is_table t)) _).1 (accepted j is) ∙ found_last (fields_refusal f)
 
-  pub state_refuses_malformed : {r : Result Unit Refusal} {e : Refusal} → IsJudged (deck_refusal d t) r → r ≡ Err e → number_of e ≡ malformed_refusal the_antenna count_limit d t
+  pub state_refuses_malformed : {r : Result Unit Refusal} {e : Refusal} → IsJudged (deck_refusal d t) r → r ≡ Err e
+      → number_of e ≡ malformed_refusal the_antenna count_limit d t
   unfolding malformed_refusal deck_refusal first_refusal
   state_refuses_malformed j is = sym (refused j is) ∙ sym ((first counts (not (finite d.height)) (not (is_table t)) 8).0 (refuses j is))
 
   pub line_refuses : {r : Result Unit Refusal} {u : Unit {0}} → IsJudged (deck_refusal d t) r → r ≡ Ok u → malformed_refusal the_antenna count_limit d t ≡ 8
   unfolding malformed_refusal deck_refusal first_refusal
   line_refuses j is = (first counts (not (finite d.height)) (not (is_table t)) 8).1 (accepted j is)
+
+-- of the deck and the table, then of a card or a malformed line
+pub ruleset before_work = (state_refuses, fields_refuse, state_refuses_malformed, line_refuses)

@@ -2,7 +2,7 @@
 use mathlib.Core.Path.{◌≡◌, sym, ap, subst, ◌∙◌}
 use mathlib.Core.List.{List}
 use mathlib.Core.Logic.{◌≢◌}
-use Prim.Native.Nat.{ℕ, ◌+◌, ◌-◌, ◌<◌, ◌≤◌}
+use Prim.Native.Nat.{ℕ, suc, ◌+◌, ◌-◌, ◌<◌, ◌≤◌}
 use native.Mathlib.Omega.{arith}
 use lib.Dec.{T}
 use lib.IntN.{ℤ, pos, nat_abs}
@@ -12,6 +12,7 @@ use mir.Syntax.{w32, w64}
 use mir.Val.{Fits, of_z, to_z}
 use mir.ValLaws.{to_z-of_z}
 use Rattle.antennas.specs.declared.antenna.Antenna.{Antenna}
+use Rattle.independence.specs.Laws.{Fills}
 use Rattle.independence.specs.EntryContracts.{RowDone, CardDone}
 use Rattle.independence.proofs.Loops.{CardInv, card_start, card_step, card_stops, card_ends}
 use Rattle.cards.specs.declared.card.Card.{Card}
@@ -75,27 +76,42 @@ pub record RowsOf (a : Antenna) (first last : ℕ) (f : Fields) : Type 0 where
   pub first_is : first ≡ nat_abs f.first
   pub last_is : last ≡ nat_abs f.last
 
-pub rows_read : (c : Card) (a : Antenna) (f : Fields) → c ≡ card_of f → a ≡ antenna_for c → fields_refusal f ≡ 0 → RowsOf a (first_of c) (last_of c) f
-rows_read c a f e ea p = let at = rows_of c f e p in record { antenna = ea ∙ ap antenna_for e; passes = p; first_is = at.first; last_is = at.last }
+pub rows_read : (c : Card) (a : Antenna) (f : Fields) → c ≡ card_of f → a ≡ antenna_for c → fields_refusal f ≡ 0
+    → RowsOf a (first_of c) (last_of c) f
+rows_read c a f e ea p =
+    let at = rows_of c f e p in
+    record { antenna = ea ∙ ap antenna_for e; passes = p; first_is = at.first; last_is = at.last }
 
 module _ (a : Antenna) (first last : ℕ) (f : Fields) (of : RowsOf a first last f) (h : Float) (t₀ : List Float) where
-  pub rows_start : CardInv the_antenna f h t₀ t₀ h (first - first)
+  -- x the height, t the table before the row at m MHz
+  abbrev pub Before : (x : Float) (t : List Float) (m : ℕ) → Type 0
+  Before x t m = CardInv the_antenna f h t₀ t x (m - first)
+
+  pub rows_start : Before h t₀ first
   rows_start = let none : first - first ≡ 0 = omega arith in rw none (card_start the_antenna the_laws f h t₀)
 
+  pub rows_end : (x : Float) (t : List Float) (m : ℕ) → Before x t m → last < m → CardDone the_antenna f h t₀ t 0 x
+  rows_end x t m i l = card_ends the_antenna the_laws f h t₀ t x (m - first) i (omega (arith, of.first_is, of.last_is))
+
   -- the row at m MHz, after those below it
-  module _ (x y : Float) (t t' : List Float) (m r : ℕ) (i : CardInv the_antenna f h t₀ t x (m - first)) (low : first ≤ m) (high : m < last + 1) (row : RowOfFields a m x t t' r y) where
+  module _ (x y : Float) (t t' : List Float) (m r : ℕ) (i : Before x t m) (low : first ≤ m) (high : m ≤ last)
+      (row : RowOfFields a m x t t' r y) where
     row_done : RowDone the_antenna f (nat_abs f.first + (m - first)) x t t' r y
     row_done =
         let at : m ≡ nat_abs f.first + (m - first) = omega (arith, of.first_is) in
-        subst (λ (k : ℕ). RowDone the_antenna f k x t t' r y) at (row f of.antenna (record { passes = of.passes; low = omega (arith, of.first_is); high = omega (arith, of.last_is) }))
+        let fills : Fills the_antenna f m = record { passes = of.passes; low = omega (arith, of.first_is); high = omega (arith, of.last_is) } in
+        subst (λ (k : ℕ). RowDone the_antenna f k x t t' r y) at (row f of.antenna fills)
 
-    pub rows_step : r ≡ 0 → CardInv the_antenna f h t₀ t' y (m + 1 - first)
+    place : m - first < suc (nat_abs f.last) - nat_abs f.first
+    place = omega (arith, of.first_is, of.last_is)
+
+    pub rows_step : r ≡ 0 → Before y t' (m + 1)
     rows_step z =
         let next : m - first + 1 ≡ m + 1 - first = omega arith in
-        subst (CardInv the_antenna f h t₀ t' y) next (card_step the_antenna the_laws f h t₀ t t' x y (m - first) r i (omega (arith, of.first_is, of.last_is)) row_done z)
+        subst (CardInv the_antenna f h t₀ t' y) next (card_step the_antenna the_laws f h t₀ t t' x y (m - first) r i place row_done z)
+
+    pub rows_last : r ≡ 0 → last ≤ m → CardDone the_antenna f h t₀ t' 0 y
+    rows_last z l = rows_end y t' (m + 1) (rows_step z) (omega arith)
 
     pub rows_stop : (z : Float) → r ≢ 0 → CardDone the_antenna f h t₀ t' r z
-    rows_stop z bad = card_stops the_antenna the_laws f h t₀ t t' x y z (m - first) r i (omega (arith, of.first_is, of.last_is)) row_done bad
-
-  pub rows_end : (x : Float) (t : List Float) (m : ℕ) → CardInv the_antenna f h t₀ t x (m - first) → last + 1 ≤ m → CardDone the_antenna f h t₀ t 0 x
-  rows_end x t m i l = card_ends the_antenna the_laws f h t₀ t x (m - first) i (omega (arith, of.first_is, of.last_is))
+    rows_stop z bad = card_stops the_antenna the_laws f h t₀ t t' x y z (m - first) r i place row_done bad

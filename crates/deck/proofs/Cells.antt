@@ -25,9 +25,12 @@ use Rattle.deck.specs.Call.{answer_of, call_of}
 use Rattle.deck.specs.Row.{ground_cell, cell_at}
 
 module _ (c : Card) (m : ℕ) where
-  pub call_above : (d : ℕ) (h : Float) → d < 90 → call_of c m (suc d) h ≡ answer_of (above_ground (antenna_for c) (whole m) (elevation_at (suc d)) (column_at (suc d)))
+  pub call_above : (d : ℕ) (h : Float) → d < 90
+      → call_of c m (suc d) h ≡ answer_of (above_ground (antenna_for c) (whole m) (elevation_at (suc d)) (column_at (suc d)))
   unfolding call_of
-  call_above d h k = ap answer_of (above (antenna_for c) (whole m) (elevation_at (suc d)) (column_at (suc d)) h (is_false (le (elevation_at (suc d)) (num 0 1)) (elevation_not_at_ground d k)))
+  call_above d h k =
+      let high = is_false (le (elevation_at (suc d)) (num 0 1)) (elevation_not_at_ground d k) in
+      ap answer_of (above (antenna_for c) (whole m) (elevation_at (suc d)) (column_at (suc d)) h high)
 
   pub call_ground : (h : Float) → call_of c m 0 h ≡ answer_of (at_ground (antenna_for c) (whole m) (column_at 0) h)
   unfolding call_of
@@ -42,12 +45,15 @@ module _ (c : Card) (m : ℕ) where
   at_ground_lem : (h : Float) (P : Answer → Type 0) → ((up : Bool) → blends ≡ up → P (ground h)) → P (call_of c m 0 h)
   at_ground_lem h P by = rw (call_ground h) (by blends refl)
 
+  -- the call at d degrees above the ground, of what is found of its row
+  abbrev answer_from : ℕ → Option (Settled Row) → Answer
+  answer_from d r = answer_of (above_from (antenna_for c) (elevation_at (suc d)) (column_at (suc d)) r)
+
   -- ---- a row whose series do not settle refuses every cell above the ground
   module _ (un : row_of (antenna_for c) (whole m) ≡ None) where
     pub above_unsettled : (d : ℕ) (h : Float) → d < 90 → (call_of c m (suc d) h).refusal ≡ 11
     unfolding above_ground unsettled_number
-    above_unsettled d h k =
-        ap (λ (a : Answer). a.refusal) (call_above d h k) ∙ ap (λ (r : Option (Settled Row)). (answer_of (above_from (antenna_for c) (elevation_at (suc d)) (column_at (suc d)) r)).refusal) un
+    above_unsettled d h k = ap (λ (a : Answer). a.refusal) (call_above d h k ∙ ap (answer_from d) un)
 
     pub ground_unsettled : (h : Float) → ((call_of c m 0 h).refusal ≡ 0) ⊎ ((call_of c m 0 h).refusal ≡ 11)
     unfolding at_ground unsettled_number
@@ -64,9 +70,10 @@ module _ (c : Card) (m : ℕ) where
     row = settled.value
 
     pub above_settled : (d : ℕ) (h : Float) → d < 90
-        → call_of c m (suc d) h ≡ record { refusal = 0; gain = cell_at row (zenith_gain_for row) (antenna_for c).azimuth (suc d); efficiency = row.eff; height = row.x }
+        → call_of c m (suc d) h
+        ≡ record { refusal = 0; gain = cell_at row (zenith_gain_for row) (antenna_for c).azimuth (suc d); efficiency = row.eff; height = row.x }
     unfolding above_ground unsettled_number
-    above_settled d h k = call_above d h k ∙ ap (λ (r : Option (Settled Row)). answer_of (above_from (antenna_for c) (elevation_at (suc d)) (column_at (suc d)) r)) is
+    above_settled d h k = call_above d h k ∙ ap (answer_from d) is
 
     own : Own (antenna_for c) (whole m) row
     own = rw is at (row_own (antenna_for c) (whole m))

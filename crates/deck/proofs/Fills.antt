@@ -2,7 +2,7 @@
 use mathlib.Core.Path.{◌≡◌, refl, sym, ap, subst, ◌∙◌}
 use mathlib.Core.List.{List}
 use mathlib.Core.Logic.{inl}
-use Prim.Native.Nat.{ℕ, zero, suc, ◌+◌, ◌-◌, ◌*◌, ◌≤◌}
+use Prim.Native.Nat.{ℕ, zero, suc, ◌+◌, ◌-◌, ◌*◌, ◌<◌, ◌≤◌}
 use native.Mathlib.Omega.{arith}
 use native.Mathlib.Numerals.{add-one}
 use lib.ListN.{set}
@@ -41,26 +41,36 @@ module _ (f : Fields) (m : ℕ) (F : Fills the_antenna f m) (s : Settled Row) (i
   abbrev row : Row
   row = s.value
 
-  gains_stored : (t₁ : List Float) (n : ℕ) → n ≤ 90 → GainsStored the_antenna f m t₁ (stored_above (cell_at row (zenith_gain_for row) (antenna_for (card_of f)).azimuth) m n t₁) (suc n)
+  abbrev gain : ℕ → Float
+  gain = cell_at row (zenith_gain_for row) (antenna_for (card_of f)).azimuth
+
+  answer : (d : ℕ) (h : Float) → d < 90
+      → the_antenna.call f m (suc d) h ≡ record { refusal = 0; gain = gain (suc d); efficiency = row.eff; height = row.x }
+  answer d h k = above_settled (card_of f) m s is d h k
+
+  gains_stored : (t₁ : List Float) (n : ℕ) → n ≤ 90 → GainsStored the_antenna f m t₁ (stored_above gain m n t₁) (suc n)
   unfolding stored_above
   gains_stored t₁ zero l = row_start the_antenna the_laws f m t₁
   gains_stored t₁ (suc n) l =
       rw add-one at
-      (row_step the_antenna the_laws f m row.x t₁ _ (suc n) (gain_at m (suc n)) (cell_at row (zenith_gain_for row) (antenna_for (card_of f)).azimuth (suc n)) F (gains_stored t₁ n (omega arith)) (omega arith) refl
-      (sym (ap (λ (a : Answer). a.gain) (above_settled (card_of f) m s is n row.x (omega arith)))))
+      (row_step the_antenna the_laws f m row.x t₁ _ (suc n) (gain_at m (suc n)) (gain (suc n)) F (gains_stored t₁ n (omega arith)) (omega arith) refl
+      (sym (ap (λ (a : Answer). a.gain) (answer n row.x (omega arith)))))
 
   settled : (h g : Float) (t₀ t : List Float) → g ≡ ground_cell (antenna_for (card_of f)).kind (zenith_gain_for row) (column_at 0) h
-      → t ≡ stored_above (cell_at row (zenith_gain_for row) (antenna_for (card_of f)).azimuth) m 90 (set t₀ ((m - 1) * 91) g)
+      → t ≡ stored_above gain m 90 (set t₀ ((m - 1) * 91) g)
       → RowDone the_antenna f m h t₀ (set t (2730 + (m - 1)) row.eff) 0 row.x
   settled h g t₀ t eg et =
-      row_ends the_antenna the_laws f m h row.x t₀ t ((m - 1) * 91) 91 (2730 + (m - 1)) g row.eff row.x F
-      (subst (λ (x : List Float). GainsStored the_antenna f m (set t₀ ((m - 1) * 91) g) x 91) (sym et) (gains_stored (set t₀ ((m - 1) * 91) g) 90 (omega arith)))
+      let t₁ = set t₀ ((m - 1) * 91) g in
+      let stored = subst (λ (x : List Float). GainsStored the_antenna f m t₁ x 91) (sym et) (gains_stored t₁ 90 (omega arith)) in
+      let ground = ground_settled (card_of f) m s is in
+      let none = row_refusal the_antenna the_laws f m h 0 (λ x. inl (ground x).0) (λ d x l. ap (λ (a : Answer). a.refusal) (answer d x l)) in
+      row_ends the_antenna the_laws f m h row.x t₀ t ((m - 1) * 91) 91 (2730 + (m - 1)) g row.eff row.x F stored
       (omega arith)
-      (sym (row_refusal the_antenna the_laws f m h 0 (λ x. inl (ground_settled (card_of f) m s is x).0) (λ d x l. ap (λ (a : Answer). a.refusal) (above_settled (card_of f) m s is d x l))))
+      (sym none)
       (omega arith)
-      (eg ∙ sym (ground_settled (card_of f) m s is h).1)
+      (eg ∙ sym (ground h).1)
       refl
-      (sym (ap (λ (a : Answer). a.efficiency) (above_settled (card_of f) m s is 89 row.x (omega arith))))
+      (sym (ap (λ (a : Answer). a.efficiency) (answer 89 row.x (omega arith))))
       (row_height (card_of f) m s is ∙ (unfold card_of antenna_for in left_is f m F.passes))
 
 pub row_settled : (a : Antenna) (m : ℕ) (h up g : Float) (kind : Kind) (e₀ : Elevation) (t₀ t : List Float) (s : Settled Row)

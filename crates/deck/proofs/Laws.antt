@@ -1,6 +1,6 @@
 -- The laws that demand 3 rests on, of the antenna that the cards are run on. Assumes nothing.
 use mathlib.Core.Path.{◌≡◌, refl, sym, ap, ap₂, subst, ◌∙◌}
-use mathlib.Core.Bool.{Bool, true, false, not, ◌||◌, cond}
+use mathlib.Core.Bool.{false, not, ◌||◌, cond}
 use mathlib.Core.Logic.{inr, ◌≢◌}
 use Prim.Native.Nat.{ℕ, zero, suc, ◌<◌, ◌≤◌}
 use native.Mathlib.Omega.{arith}
@@ -26,6 +26,7 @@ use Rattle.rows.proofs.Height.{height_finite}
 use Rattle.cells.specs.Cell as Cell
 use Rattle.cells.proofs.Blends.{blends_kind}
 use Rattle.std.specs.Prelude.{Option, Some, None}
+use Rattle.std.proofs.lemmas.Bool.{or_parts}
 use Rattle.integrals.specs.Settled.{unsettled_number}
 use Rattle.gain_core.specs.Core.{above_ground, work_of}
 use Rattle.gain_core.specs.declared.calls.Call.{Call}
@@ -57,7 +58,8 @@ unfolding unsettled_number
 answer_height x (Some call) own e = own
 answer_height x None own e = let z : ⊥ = omega arith in absurd z
 
-answer_floor : (w : Option Call) → OfCall (λ call. AboveFloor call.gain call.efficiency) w → (answer_of w).refusal ≡ 0 → AboveFloor (answer_of w).gain (answer_of w).efficiency
+answer_floor : (w : Option Call) → OfCall (λ call. AboveFloor call.gain call.efficiency) w → (answer_of w).refusal ≡ 0
+    → AboveFloor (answer_of w).gain (answer_of w).efficiency
 unfolding unsettled_number
 answer_floor (Some call) own e = own
 answer_floor None own e = let z : ⊥ = omega arith in absurd z
@@ -124,11 +126,11 @@ module _ (f : Fields) (m : ℕ) (p : fields_refusal f ≡ 0) where
   unfolding card_of antenna_for
   ground_same_lem h h' t =
       let up = looks f p ∙ is_true _ t in
-      ap (λ (a : Answer). a.gain)
-      (call_ground (card_of f) m h ∙ ap answer_of (zenith_ground_same (antenna_for (card_of f)) (whole m) (column_at 0) h h' up) ∙ sym (call_ground (card_of f) m h'))
+      let same = zenith_ground_same (antenna_for (card_of f)) (whole m) (column_at 0) h h' up in
+      ap (λ (a : Answer). a.gain) (call_ground (card_of f) m h ∙ ap answer_of same ∙ sym (call_ground (card_of f) m h'))
 
   -- the gain is -30 plus the call's own efficiency, which is the type's
-  ground_is : (h : Float) → T (not (has_second_call (nat_abs f.kop)))
+  ground_is : (h : Float) → has_second_call (nat_abs f.kop) ≡ false
       → call_of (card_of f) m 0 h
       ≡ record {
         refusal = 0;
@@ -138,30 +140,29 @@ module _ (f : Fields) (m : ℕ) (p : fields_refusal f ≡ 0) where
       }
   unfolding card_of antenna_for unsettled_number
   ground_is h n =
-      call_ground (card_of f) m h ∙ ap answer_of (ground_value (antenna_for (card_of f)) (whole m) (column_at 0) h (looks f p ∙ is_false _ n))
+      call_ground (card_of f) m h ∙ ap answer_of (ground_value (antenna_for (card_of f)) (whole m) (column_at 0) h (looks f p ∙ n))
 
-  ground_gain_lem : (h : Float) → T (not (has_second_call (nat_abs f.kop)))
+  ground_gain_lem : (h : Float) → has_second_call (nat_abs f.kop) ≡ false
       → (call_of (card_of f) m 0 h).gain ≡ floor_plus (efficiency_of (kind_of (pos (nat_abs f.kop))) h (num 0 1))
   unfolding floor_plus
   ground_gain_lem h n = ap (λ (a : Answer). a.gain) (ground_is h n) ∙ ap (λ (k : ℤ). floor ⊞ efficiency_of (kind_of k) h (num 0 1)) (is_type_lem f p)
 
 -- ---- outside types 2, 3 and 4
-or-false : (a b : Bool) → T (not (a || b)) → (a ≡ false) × T (not b)
-or-false true b t = absurd t
-or-false false b t = (refl, t)
-
-floor_holds : (f : Fields) (m d : ℕ) (h : Float) → fields_refusal f ≡ 0 → d < 91 → T (not (eqb (nat_abs f.kop) 2 || has_second_call (nat_abs f.kop))) → (call_of (card_of f) m d h).refusal ≡ 0
+floor_holds : (f : Fields) (m d : ℕ) (h : Float) → fields_refusal f ≡ 0 → d < 91 → T (not (eqb (nat_abs f.kop) 2 || has_second_call (nat_abs f.kop)))
+    → (call_of (card_of f) m d h).refusal ≡ 0
     → AboveFloor (call_of (card_of f) m d h).gain (call_of (card_of f) m d h).efficiency
 floor_holds f m zero h p l t e =
-    let n = (or-false (eqb (nat_abs f.kop) 2) (has_second_call (nat_abs f.kop)) t).1 in
-    rw (ground_is f m p h n) (inr (inr refl))
+    let o = or_parts (eqb (nat_abs f.kop) 2) (has_second_call (nat_abs f.kop)) (is_false _ t) in
+    rw (ground_is f m p h o.1) (inr (inr refl))
 floor_holds f m (suc d) h p l t e =
-    let o = or-false (eqb (nat_abs f.kop) 2) (has_second_call (nat_abs f.kop)) t in
+    let o = or_parts (eqb (nat_abs f.kop) 2) (has_second_call (nat_abs f.kop)) (is_false _ t) in
     let at = call_above (card_of f) m d h (omega arith) in
     let own = floor_above (antenna_for (card_of f)) (whole m) (elevation_at (suc d)) (column_at (suc d))
     (unfold card_of antenna_for in kind f p 2 (omega arith) (omega arith) ∙ o.0)
-    (unfold card_of antenna_for in looks f p ∙ is_false _ o.1) in
-    subst (λ (a : Answer). AboveFloor a.gain a.efficiency) (sym at) (answer_floor (above_ground (antenna_for (card_of f)) (whole m) (elevation_at (suc d)) (column_at (suc d))) own (ap (λ (a : Answer). a.refusal) (sym at) ∙ e))
+    (unfold card_of antenna_for in looks f p ∙ o.1) in
+    let call = above_ground (antenna_for (card_of f)) (whole m) (elevation_at (suc d)) (column_at (suc d)) in
+    let floor = answer_floor call own (ap (λ (a : Answer). a.refusal) (sym at) ∙ e) in
+    subst (λ (a : Answer). AboveFloor a.gain a.efficiency) (sym at) floor
 
 -- ---- all of them
 pub the_laws : Laws the_antenna
@@ -175,16 +176,19 @@ the_laws =
       finite_height = left_finite;
       ground_refusal = λ f m h h' F. ground_refusal_lem f m F.passes h h';
       ground_same = λ f m h h' F t. ground_same_lem f m F.passes h h' t;
-      ground_gain = λ f m h F t e. ground_gain_lem f m F.passes h t;
+      ground_gain = λ f m h F t e. ground_gain_lem f m F.passes h (is_false _ t);
       efficiency_same = λ kop h h' n. efficiency_same_lem (kind_of (pos kop)) h h' (num 0 1) (carries_number kop ∙ is_false (carries_height kop) n);
       efficiency_of8 = λ h. unfold efficiency_of kind_of is_type in refl;
       floored = λ f m d h F l t e. unfold floor_plus in floor_holds f m d h F.passes l t e;
     }
   where
-    leaves : (f : Fields) (m d : ℕ) (h : Float) → Fills the_antenna f m → d < 90 → (call_of (card_of f) m (suc d) h).refusal ≡ 0 → (call_of (card_of f) m (suc d) h).height ≡ height_left the_antenna f m
+    leaves : (f : Fields) (m d : ℕ) (h : Float) → Fills the_antenna f m → d < 90 → (call_of (card_of f) m (suc d) h).refusal ≡ 0
+        → (call_of (card_of f) m (suc d) h).height ≡ height_left the_antenna f m
     leaves f m d h F l e =
         let at = call_above (card_of f) m d h l in
         let a = antenna_for (card_of f) in
+        let call = above_ground a (whole m) (elevation_at (suc d)) (column_at (suc d)) in
+        let own = left_above a (whole m) (elevation_at (suc d)) (column_at (suc d)) in
         ap (λ (x : Answer). x.height) at
-        ∙ answer_height _ (above_ground a (whole m) (elevation_at (suc d)) (column_at (suc d))) (left_above a (whole m) (elevation_at (suc d)) (column_at (suc d))) (ap (λ (x : Answer). x.refusal) (sym at) ∙ e)
+        ∙ answer_height _ call own (ap (λ (x : Answer). x.refusal) (sym at) ∙ e)
         ∙ (unfold card_of antenna_for in left_is f m F.passes)

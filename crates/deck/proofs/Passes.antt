@@ -45,9 +45,11 @@ fields_passed f e =
 pub fields_number : (f : Fields) → (fields_refusal f ≢ 9) × (fields_refusal f ≢ 10)
 unfolding fields_refusal input_refusal first_refusal
 fields_number f =
-    by (not (is_ioncap_type f.kop)) (fields_outside f) (not (lt (num 0 1) (params_for f).asig)) (not (is_range f.first f.last)) (too_many_bays f.kop (params_for f).and)
+    by (not (is_ioncap_type f.kop)) (fields_outside f) (not (lt (num 0 1) (params_for f).asig)) (not (is_range f.first f.last))
+    (too_many_bays f.kop (params_for f).and)
   where
-    by : (a b c d e : Bool) → (◌≢◌ {A = ℕ} (cond a 1 (cond b 2 (cond c 3 (cond d 4 (cond e 5 0))))) 9) × (◌≢◌ {A = ℕ} (cond a 1 (cond b 2 (cond c 3 (cond d 4 (cond e 5 0))))) 10)
+    by : (a b c d e : Bool)
+        → (◌≢◌ {A = ℕ} (cond a 1 (cond b 2 (cond c 3 (cond d 4 (cond e 5 0))))) 9) × (◌≢◌ {A = ℕ} (cond a 1 (cond b 2 (cond c 3 (cond d 4 (cond e 5 0))))) 10)
     by true b c d e = (λ p. omega arith, λ p. omega arith)
     by false true c d e = (λ p. omega arith, λ p. omega arith)
     by false false true d e = (λ p. omega arith, λ p. omega arith)
@@ -90,7 +92,7 @@ slot_within : (f : Fields) (i : ℕ) → fields_refusal f ≡ 0 → i < 20 → o
 unfolding fields_outside
 slot_within f i e h =
     let n = (fields_passed f e).numbers in
-    let long = not-false _ (or_left (not (eqb (length f.slots) 20)) _ n) in
+    let long : eqb (length f.slots) 20 ≡ true = not-false _ (or_left (not (eqb (length f.slots) 20)) _ n) in
     let rest = or_right (not (eqb (length f.slots) 20)) _ n in
     let slots = or_left (any_outside f.slots) _ (or_right (any_outside (f.toaz ∷ [])) _ rest) in
     within f.slots i slots (omega (arith, eqb-true (length f.slots) 20 long))
@@ -115,7 +117,8 @@ extras_within a b c d p q r s = rw (p, q, r, s) refl
 
 module _ (f : Fields) (e : fields_refusal f ≡ 0) where
   -- an arm of `ioninit`
-  arm_within : (angle leg height : Float) (extras : List Float) → outside angle ≡ false → outside leg ≡ false → outside height ≡ false → any_outside extras ≡ false
+  arm_within : (angle leg height : Float) (extras : List Float) → outside angle ≡ false → outside leg ≡ false → outside height ≡ false
+      → any_outside extras ≡ false
       → ParamsWithin (params_of f.slots angle leg height extras)
   unfolding params_of
   arm_within angle leg height extras p q r s =

@@ -7,6 +7,7 @@ use Rattle.std.specs.declared.result.Result.{Result}
 use Rattle.std.specs.declared.result.Result.TheVariants.{Ok, Err}
 use Rattle.refusals.specs.declared.Refusal.{Refusal}
 use Rattle.refusals.specs.Refusals.{number_of, outcome_number, outcome_values}
+use Rattle.refusals.proofs.Refusals.{accepted, refused}
 use Rattle.table.specs.Table.{refused_table}
 use Rattle.independence.specs.EntryContracts.{CardDone, refusal_before_work}
 use Rattle.independence.proofs.Calls.{none_before_work, room_before_work, entry_refused_before, entry_refused, entry_accepted}
@@ -33,5 +34,8 @@ module _ (deck : Deck) (f : Fields) (t : List Float) where
       (omega (arith, room), entry_accepted the_antenna the_laws count_limit (state_of deck) f t t₁ t' 0 left (sym none) p done refl)
   work_done t₁ t' none p (Err e) done =
       let d = state_of deck in
-      entry_refused the_antenna the_laws count_limit d f t t₁ t' (refused_table t') (number_of e) deck.height (refused_within d (number_of e)) (sym none) p done (number_not_zero e) refl
+      entry_refused the_antenna the_laws count_limit d f t t₁ t' (refused_table t') (number_of e) deck.height (refused_within d (number_of e))
+      (sym none) p done (number_not_zero e) refl
       (within d (number_of e) (λ ne. (none_before_work the_antenna the_laws count_limit d f t none).room))
+
+pub ruleset work = (accepted, refused, work_refused_before, work_done)

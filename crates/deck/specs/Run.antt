@@ -23,7 +23,8 @@ answer_on deck e =
     let state = state_of deck in
     record { deck = deck_of (deck_after the_antenna count_limit state e); verdict = judged (outcome_on the_antenna count_limit state e).verdict }
 
--- A card's fields judged and then its rows filled: the table t becomes t'. The entry is done with the height left and a count, or, refused, once the table is cleared
+-- A card's fields judged and then its rows filled: the table t becomes t'. The entry is done with the height left and a count,
+-- or, refused, once the table is cleared
 abbrev pub WorkDone : Deck → Fields → List Float → List Float → Result Float Refusal → Type 0
 WorkDone deck f t t' (Ok left) =
     (deck.accepted < count_limit)

@@ -13,6 +13,7 @@ use refusals::Refusal;
 use table::Table;
 
 // The height left.
+#[tactic(auto, using(crate::proofs::CardRows::rows_of))]
 pub(crate) fn fill_card(fields: Fields, height: f32, table: &mut Table) -> Result<f32, Refusal>
     requires { fields_refusal fields ≡ 0 }
     ensures { CardDone the_antenna fields height table.old table.new (outcome_number result) (outcome_values height result) }
@@ -23,7 +24,7 @@ pub(crate) fn fill_card(fields: Fields, height: f32, table: &mut Table) -> Resul
     let first = card.first as usize;
     let last = card.last as usize;
     let mut x = height;
-    for m in first..last + 1 {
+    for m in first..=last {
         x = fill_row(antenna, m, x, &columns, table)?;
     }
     Ok(x)

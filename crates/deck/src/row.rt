@@ -14,6 +14,7 @@ use rows::Row;
 use table::{COLUMNS, GAINS, Table};
 
 // `zenith` is the row's own gain there, which types 3 and 4 alone take.
+#[tactic(auto, unfolding(crate::specs::Row::ground_cell))]
 fn ground_cell(kind: Kind, zenith: f32, e: Elevation, height: f32) -> f32
     ensures { result ≡ ground_cell kind zenith e height }
 {
@@ -43,6 +44,7 @@ fn fill_above(
 }
 
 // The height left. The ground cell alone takes the height that the row finds.
+#[tactic(auto, using(crate::proofs::Fills::row_unsettled))]
 pub(crate) fn fill_row(
     antenna: Antenna,
     m: usize,
@@ -53,10 +55,8 @@ pub(crate) fn fill_row(
     requires { (1 ≤ m) × (m ≤ row_count) }
     ensures { RowOfFields antenna m height table.old table.new (outcome_number result) (outcome_values height result) }
 {
-    let Some(settled) = rows::row_of(antenna, m as u16 as f32) else {
-        return Err(Refusal::Unsettled);
-    };
-    let row = settled.value;
+    let found = rows::row_of(antenna, m as u16 as f32);
+    let row = found.ok_or(Refusal::Unsettled)?.value;
     let zenith = gain_core::zenith_gain_for(row);
     let e = angles::elevation_of(columns.cosines[0], columns.sines[0]);
     table[(m - 1) * COLUMNS] = ground_cell(antenna.kind, zenith, e, height);

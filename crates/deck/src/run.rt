@@ -20,6 +20,7 @@ pub struct CardAnswer {
 }
 
 // 10, 9, 7 and 1 to 5: all of a card's but 11, which arises in the work.
+#[tactic(auto, using(crate::proofs::BeforeWork::before_work))]
 fn refusal_before_work(deck: Deck, fields: Fields, table: &[f32]) -> Result<(), Refusal>
     ensures { IsJudged (refusal_before_work the_antenna count_limit (state_of deck) fields table.now) result }
 {
@@ -27,6 +28,7 @@ fn refusal_before_work(deck: Deck, fields: Fields, table: &[f32]) -> Result<(), 
     fields_refusal(fields)
 }
 
+#[tactic(auto, using(crate::proofs::BeforeWork::before_work))]
 fn malformed_refusal(deck: Deck, table: &[f32]) -> Refusal
     ensures { number_of result ≡ malformed_refusal the_antenna count_limit (state_of deck) table.now }
 {
@@ -37,6 +39,7 @@ fn malformed_refusal(deck: Deck, table: &[f32]) -> Refusal
 }
 
 // The height left. The table is cleared, then filled; a refusal may leave anything in it.
+#[tactic(auto, using(crate::proofs::Work::work))]
 fn filled(deck: Deck, fields: Fields, table: &mut [f32]) -> Result<f32, Refusal>
     ensures { WorkDone deck fields table.old table.new result }
 {

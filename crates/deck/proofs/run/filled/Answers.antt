@@ -1,18 +1,10 @@
-use mathlib.Core.Path.{sym, ◌∙◌}
 use Rattle.std.proofs.lemmas.Option.{MatchOption-at_none}
-use Rattle.std.proofs.lemmas.Result.{err_from_is_err_and}
-use Rattle.refusals.proofs.Refusals.{accepted, refused}
+use Rattle.refusals.proofs.Refusals.{accepted}
 use Rattle.independence.proofs.Calls.{cleared_length_of, none_before_work}
 use Rattle.deck.specs.Antenna.{the_antenna}
 use Rattle.deck.specs.Run.{count_limit}
 use Rattle.deck.proofs.Laws.{the_laws}
-use Rattle.deck.proofs.Work.{work_refused_before, work_done}
 use Rattle.deck.proofs.run.filled.Goals as goal
-
-pub returns-in_err-refusal_before_work : goal.returns-in_err-refusal_before_work
-returns-in_err-refusal_before_work c =
-    let p = err_from_is_err_and c.from_residual.result c.from_residual.ensures.1 in
-    rw (p.1, p.2) (work_refused_before _ _ _ _ (sym (refused c.refusal_before_work.ensures c.in_err-refusal_before_work.was)))
 
 pub returns-in_default : goal.returns-in_default
 returns-in_default c =
@@ -21,7 +13,3 @@ returns-in_default c =
 
 pub fill_card-requires : goal.fill_card-requires
 fill_card-requires c = (none_before_work the_antenna the_laws count_limit _ _ _ (accepted c.refusal_before_work.ensures c.in_ok-refusal_before_work.was)).input
-
-pub returns : goal.returns
-returns c =
-    work_done _ _ _ _ _ (accepted c.refusal_before_work.ensures c.in_ok-refusal_before_work.was) (c.in-Some.ensures.cases.same ∙ c.clear_refused.ensures) _ c.fill_card.ensures

@@ -9,5 +9,7 @@ returns-in-Ok c = let both = answered _ _ _ _ c.in-Ok.ensures.1 in record { entr
 pub returns-in-Err : goal.returns-in-Err
 returns-in-Err c =
     let done = c.in-Err.ensures in
-    let both = answered _ _ _ _ (record { verdict = done.verdict; table = c.clear_refused.ensures ∙ done.table; deck = ap state_of c.refused_deck.ensures ∙ done.deck }) in
+    let table = c.clear_refused.ensures ∙ done.table in
+    let deck = ap state_of c.refused_deck.ensures ∙ done.deck in
+    let both = answered _ _ _ _ (record { verdict = done.verdict; table = table; deck = deck }) in
     record { entry_done = both.0; value = both.1 }
