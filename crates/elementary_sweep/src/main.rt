@@ -70,7 +70,7 @@ fn main(rt: HostRuntime) -> io::Result<()> {
     if group == 0 {
         return Ok(());
     }
-    for function in number(&rt, 1)..last + 1 {
+    for function in number(&rt, 1)..=last {
         print_groups(&rt, function, first, end, group)?;
     }
     Ok(())
