@@ -6,6 +6,7 @@ ghost use Rattle.arctangent.specs.Arctangent.{from_base, arctangent_of, arctange
 
 use basic::{abs, is_negative};
 
+#[tactic(auto, unfolding(crate::specs::Arctangent::from_base, single::proofs::Literals::round, single::proofs::Literals::of_bits))]
 fn from_base(base: f32, w: f32) -> f32
     ensures { result ≡ from_base base w }
 {

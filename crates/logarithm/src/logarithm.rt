@@ -12,6 +12,7 @@ struct Digits {
     e: u32,
 }
 
+#[tactic(auto, unfolding(crate::specs::Logarithm::ln_at, single::proofs::Literals::round, single::proofs::Literals::of_bits))]
 fn ln_at(m: f32, e: f32) -> f32
     ensures { result ≡ ln_at m e }
 {
@@ -32,6 +33,7 @@ fn exponent(a: u32, b: u32) -> f32
 // Of the positive normal f32 with the pattern b, where a field of bias stands for 2 ^ 0. From the
 // digits 3,474,675 on, 1.4142135's, they are halved: in whole numbers, since a choice between two
 // f32s costs a jump.
+#[tactic(auto, using(single::proofs::Positive::normal_units, single::proofs::Sign::finite_bits, crate::proofs::Digits::from_normal, crate::proofs::Digits::below_end, crate::proofs::Digits::from_end))]
 fn split(b: u32, bias: u32) -> Digits
     requires { (8388608 ≤ b) × (b < 2139095040) × (bias < 500) }
     ensures { (result.e < 1000) × (ln_at result.m (of_int binary32 (minus result.e bias)) ≡ ln_from (normal_units b) (bias + 23)) }

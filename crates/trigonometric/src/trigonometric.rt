@@ -29,6 +29,7 @@ struct Reduction {
 }
 
 // By two comparisons, as its definition: a range's `contains` is no plainer.
+#[tactic(auto, unfolding(crate::specs::Trigonometric::in_range, single::proofs::Literals::round, single::proofs::Literals::of_bits))]
 fn in_range(x: f32) -> bool
     ensures { result ≡ in_range x }
 {
@@ -36,6 +37,7 @@ fn in_range(x: f32) -> bool
 }
 
 // What n is cut from.
+#[tactic(auto, unfolding(crate::specs::Trigonometric::turns_argument, single::proofs::Literals::round, single::proofs::Literals::of_bits))]
 fn turns_argument(x: f32) -> f32
     ensures { result ≡ turns_argument x }
 {
@@ -59,6 +61,7 @@ fn whole_part(t: f32) -> u32
 }
 
 // n as an f32, from its magnitude and sign.
+#[tactic(auto, unfolding(crate::specs::Turns::turns_float), using(single::proofs::Integers::as_i64, single::proofs::Integers::negated_i64))]
 fn turns_float(negative: bool, k: u32) -> f32
     requires { k ≤ 2 ^ 21 }
     ensures { result ≡ turns_float negative k }
@@ -93,6 +96,7 @@ impl Quadrant {
     }
 }
 
+#[tactic(auto, unfolding(crate::specs::Trigonometric::rest, single::proofs::Literals::round, single::proofs::Literals::of_bits))]
 fn rest_of(x: f32, n: f32) -> f32
     ensures { result ≡ rest x n }
 {
@@ -112,12 +116,14 @@ fn reduce(x: f32) -> Reduction
     Reduction { quadrant, rest }
 }
 
+#[tactic(auto, unfolding(crate::specs::Trigonometric::sine_part, single::proofs::Literals::round, single::proofs::Literals::of_bits))]
 fn sine_part(r: f32, z: f32) -> f32
     ensures { result ≡ sine_part r z }
 {
     r + r * z * (-0.16666654611 + z * (0.0083321608736 + z * -0.00019515295891))
 }
 
+#[tactic(auto, unfolding(crate::specs::Trigonometric::cosine_part, single::proofs::Literals::round, single::proofs::Literals::of_bits))]
 fn cosine_part(z: f32) -> f32
     ensures { result ≡ cosine_part z }
 {
@@ -125,6 +131,7 @@ fn cosine_part(z: f32) -> f32
 }
 
 // By an array, since a choice between two f32s costs a jump.
+#[tactic(auto, unfolding(crate::specs::Trigonometric::sine_at), using(crate::proofs::Reduction::by_quadrant_lem))]
 fn sine_at(quadrant: Quadrant, s: f32, c: f32) -> f32
     ensures { result ≡ sine_at quadrant.q s c }
 {

@@ -10,6 +10,7 @@ pub use encoding::{bits, float};
 pub use tally::{MOST_LINES, Tally, counted};
 
 // A hexadecimal digit; any other byte counts as 0.
+#[tactic(auto, unfolding(crate::specs::Line::digit_of))]
 pub fn digit(b: u8) -> u32
     ensures { result ≡ digit_of b }
 {
@@ -32,6 +33,7 @@ pub fn hex(field: &[u8]) -> u32
 }
 
 // The i32 with these bits.
+#[tactic(auto, unfolding(crate::specs::Line::signed_of))]
 pub fn signed(bits: u32) -> i32
     ensures { result ≡ signed_of bits }
 {
@@ -39,6 +41,7 @@ pub fn signed(bits: u32) -> i32
 }
 
 // Any NaN is the same as any NaN.
+#[tactic(auto, unfolding(crate::specs::Line::same_bits))]
 pub fn same(x: f32, y: f32) -> bool
     ensures { result ≡ same_bits x y }
 {

@@ -11,6 +11,7 @@ pub struct Tally {
     pub differ: u64,
 }
 
+#[tactic(auto, unfolding(crate::specs::Counting::one_more))]
 fn one_more(count: u64) -> u64
     ensures { result ≡ one_more count }
 {
