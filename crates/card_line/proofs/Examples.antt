@@ -39,16 +39,19 @@ card_of kop =
 
 -- type `  2`
 pub first_card : line_of (line_with (32 ∷ 32 ∷ 50 ∷ []) (ones 0)) ≡ Some (card_of (pos 2))
-unfolding line_of is_well_formed integers_read decimals_read fields_in fields_of integer_of integer decimal_of pointed ten_thousandths signed_of unspaced digits_of read_on round neg
+unfolding line_of is_well_formed integers_read decimals_read fields_in fields_of
+    integer_of integer decimal_of pointed ten_thousandths signed_of unspaced digits_of read_on round neg
 first_card = refl
 
 -- type `-99`, off-azimuth `    -0.0000`: a line is well formed whatever the card's verdict, and minus zero is zero
 pub minus_signs : line_of (line_with (45 ∷ 57 ∷ 57 ∷ []) (replicate 4 32 ++ (45 ∷ 48 ∷ 46 ∷ 48 ∷ 48 ∷ 48 ∷ 48 ∷ []))) ≡ Some (card_of (negsuc 98))
-unfolding line_of is_well_formed integers_read decimals_read fields_in fields_of integer_of integer decimal_of pointed ten_thousandths signed_of unspaced digits_of read_on round neg
+unfolding line_of is_well_formed integers_read decimals_read fields_in fields_of
+    integer_of integer decimal_of pointed ten_thousandths signed_of unspaced digits_of read_on round neg
 minus_signs = refl
 
 -- `  1  3 30`, then `     0.0000` to `     9.0000`
-pub in_order : line_of ((32 ∷ 32 ∷ 49 ∷ 32 ∷ 32 ∷ 51 ∷ 32 ∷ 51 ∷ 48 ∷ []) ++ ones 0 ++ ones 1 ++ ones 2 ++ ones 3 ++ ones 4 ++ ones 5 ++ ones 6 ++ ones 7 ++ ones 8 ++ ones 9)
+pub in_order : line_of ((32 ∷ 32 ∷ 49 ∷ 32 ∷ 32 ∷ 51 ∷ 32 ∷ 51 ∷ 48 ∷ [])
+    ++ ones 0 ++ ones 1 ++ ones 2 ++ ones 3 ++ ones 4 ++ ones 5 ++ ones 6 ++ ones 7 ++ ones 8 ++ ones 9)
     ≡ Some (
     let o = num 0 1 in
     record {
@@ -59,7 +62,8 @@ pub in_order : line_of ((32 ∷ 32 ∷ 49 ∷ 32 ∷ 32 ∷ 51 ∷ 32 ∷ 51 ∷
       slots = o ∷ o ∷ num 1 1 ∷ num 2 1 ∷ o ∷ num 3 1 ∷ num 4 1 ∷ num 5 1 ∷ num 6 1 ∷ num 7 1 ∷ num 8 1 ∷ num 9 1 ∷ o ∷ o ∷ o ∷ o ∷ o ∷ o ∷ o ∷ o ∷ [];
       model = Compatible;
     })
-unfolding line_of is_well_formed integers_read decimals_read fields_in fields_of integer_of integer decimal_of pointed ten_thousandths signed_of unspaced digits_of read_on round neg
+unfolding line_of is_well_formed integers_read decimals_read fields_in fields_of
+    integer_of integer decimal_of pointed ten_thousandths signed_of unspaced digits_of read_on round neg
 in_order = refl
 
 -- a carriage return before the line feed
@@ -69,10 +73,12 @@ carriage_return = refl
 
 -- a tab before the type
 pub tab : line_of (line_with (32 ∷ 9 ∷ 50 ∷ []) (ones 0)) ≡ None
-unfolding line_of is_well_formed integers_read decimals_read fields_in fields_of integer_of integer decimal_of pointed ten_thousandths signed_of unspaced digits_of read_on round neg
+unfolding line_of is_well_formed integers_read decimals_read fields_in fields_of
+    integer_of integer decimal_of pointed ten_thousandths signed_of unspaced digits_of read_on round neg
 tab = refl
 
 -- five digits before the point: ` 12345.0000`
 pub five_digits : line_of (line_with (32 ∷ 32 ∷ 50 ∷ []) (32 ∷ 49 ∷ 50 ∷ 51 ∷ 52 ∷ 53 ∷ 46 ∷ 48 ∷ 48 ∷ 48 ∷ 48 ∷ [])) ≡ None
-unfolding line_of is_well_formed integers_read decimals_read fields_in fields_of integer_of integer decimal_of pointed ten_thousandths signed_of unspaced digits_of read_on round neg
+unfolding line_of is_well_formed integers_read decimals_read fields_in fields_of
+    integer_of integer decimal_of pointed ten_thousandths signed_of unspaced digits_of read_on round neg
 five_digits = refl

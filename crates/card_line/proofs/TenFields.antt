@@ -34,7 +34,8 @@ pub reading_start : (l : List ℕ) (v : List Float) → length v ≡ 10 → Read
 unfolding decimals_read
 reading_start l v e = record { low = omega arith; long = e; all = refl; each = λ j h. absurd (not-suc-le-zero h) }
 
-pub reading_step : (l : List ℕ) (v : List Float) (k : ℕ) (d : Option Float) (x : Float) → Reading l v k → k < 10 → d ≡ decimal_of (cut l k) → d ≡ Some x → Reading l (set v k x) (k + 1)
+pub reading_step : (l : List ℕ) (v : List Float) (k : ℕ) (d : Option Float) (x : Float) → Reading l v k → k < 10
+    → d ≡ decimal_of (cut l k) → d ≡ Some x → Reading l (set v k x) (k + 1)
 unfolding decimals_read
 reading_step l v k d x i h e f =
     let g : decimal_at l k ≡ Some x = cut_is l k d (Some x) e f in
@@ -59,7 +60,8 @@ stays_false l j (suc n) h b =
       | inr g ↦ rw (stays_false l j n (le_of_suc-le-suc g) b) refl
     ]
 
-pub reading_fails : (l : List ℕ) (v : List Float) (k : ℕ) (d : Option Float) → Reading l v k → k < 10 → d ≡ decimal_of (cut l k) → d ≡ None → decimals_read l 10 ≡ false
+pub reading_fails : (l : List ℕ) (v : List Float) (k : ℕ) (d : Option Float) → Reading l v k → k < 10
+    → d ≡ decimal_of (cut l k) → d ≡ None → decimals_read l 10 ≡ false
 unfolding decimals_read
 reading_fails l v k d i h e f =
     let b : decimals_read l (suc k) ≡ false = rw (i.all, cut_is l k d None e f) refl in
@@ -70,3 +72,5 @@ reading_ends l v k i h =
     let e : k ≡ 10 = omega (arith, i.low) in
     let at10 : Reading l v 10 = subst (Reading l v) e i in
     record { all = at10.all; each = at10.each }
+
+pub ruleset fields_read = (reading_fails, reading_ends)

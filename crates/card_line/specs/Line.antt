@@ -1,4 +1,5 @@
--- Document 01 section 10, a line of `gainlist`: "119 bytes a line: type, first, last MHz in 3 columns each; then ten fields of 11: off-azimuth and slots 3, 4, 6 to 12, the rest 0". Definitions only.
+-- Document 01 section 10, a line of `gainlist`: "119 bytes a line: type, first, last MHz in 3 columns each;
+-- then ten fields of 11: off-azimuth and slots 3, 4, 6 to 12, the rest 0". Definitions only.
 use Rattle.std.specs.Prelude.{ℕ, zero, suc, ◌+◌, ◌*◌, Bool, true, cond, ◌&&◌, List, [], ◌∷◌, eqb, ℤ, length, take, drop, Float, Option, Some, None}
 use Rattle.single.specs.Single.{num}
 use Rattle.parameters.specs.declared.model.Model.TheVariants.{Compatible}

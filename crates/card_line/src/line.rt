@@ -10,6 +10,7 @@ use parameters::Model;
 const BYTES: usize = 119;
 
 // The values of the ten fields of 11 columns, where all of them are numbers.
+#[tactic(auto, using(crate::proofs::TenFields::fields_read))]
 fn read_decimals(s: &[u8]) -> Option<[f32; 10]>
     requires { length s.now ≡ 119 }
     ensures { DecimalsDone s.now result }
@@ -41,6 +42,7 @@ fn card_fields(kop: i32, first: i32, last: i32, values: [f32; 10]) -> Fields
 }
 
 // No card's fields where the line is malformed.
+#[tactic(auto, using(crate::proofs::Answers::lines_read))]
 pub fn read_line(s: &[u8]) -> Option<Fields>
     ensures { result ≡ line_of s.now }
 {
