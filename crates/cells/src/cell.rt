@@ -66,7 +66,7 @@ fn cell(row: Row, azimuth: Azimuth, delta: f32, t: f32, q: f32, r: f32, s: f32) 
 }
 
 // Types 3 and 4 look straight up, at 1.570796 and azimuth 0: the same for a whole row.
-#[tactic(auto, unfolding(crate::specs::Cell::zenith_gain, parameters::proofs::Literals::round, parameters::proofs::Literals::of_bits))]
+#[tactic(auto, unfolding(crate::specs::Cell::zenith_gain, single::proofs::Literals::round, single::proofs::Literals::of_bits))]
 pub fn zenith_gain(row: Row) -> f32
     ensures { result ≡ zenith_gain row }
 {
@@ -77,7 +77,7 @@ pub fn zenith_gain(row: Row) -> f32
 }
 
 // By the fourth power of the elevation's sine, so that straight up reads the same at each azimuth.
-#[tactic(auto, unfolding(crate::specs::Cell::blend_of, parameters::proofs::Literals::round, parameters::proofs::Literals::of_bits))]
+#[tactic(auto, unfolding(crate::specs::Cell::blend_of, single::proofs::Literals::round, single::proofs::Literals::of_bits))]
 pub fn blend(e: Elevation, zenith: f32, rain: f32) -> f32
     ensures { result ≡ blend_of e zenith rain }
 {

@@ -5,7 +5,7 @@ ghost use Rattle.curtain.specs.Bays.{sx_of};
 use crate::card::CurtainCard;
 
 // `sx` after the card's pairs of bays.
-#[tactic(auto, unfolding(crate::specs::Bays::sx_of, crate::proofs::Literals::round, crate::proofs::Literals::of_bits))]
+#[tactic(auto, unfolding(crate::specs::Bays::sx_of, single::proofs::Literals::round, single::proofs::Literals::of_bits))]
 pub(crate) fn bays_sum(card: CurtainCard, fac3: f32, fac4: f32) -> f32
     ensures { result ≡ sx_of card.ep card.nep card.nn fac3 fac4 }
 {

@@ -28,7 +28,7 @@ fn count_of(x: f32, most: u8, negative: u8) -> u8
 }
 
 // An even whole number, zero among them. From 2 ^ 24 on every finite f32 is one.
-#[tactic(auto, unfolding(crate::proofs::Literals::of_bits), using(crate::proofs::Even::even_whole, crate::proofs::Even::part_not_even, crate::proofs::Even::even_large))]
+#[tactic(auto, unfolding(single::proofs::Literals::of_bits), using(crate::proofs::Even::even_whole, crate::proofs::Even::part_not_even, crate::proofs::Even::even_large))]
 fn is_even(phi: f32) -> bool
     ensures { result ≡ eq (rem binary32 phi (num 2 1)) (num 0 1) }
 {
@@ -42,7 +42,7 @@ fn is_even(phi: f32) -> bool
 
 // Any number of bays that is not an even whole number counts as odd. 64 bays make 32 pairs, and more
 // bays are refused before: the limit is for those who ask here.
-#[tactic(auto, unfolding(crate::specs::Card::card_of, crate::specs::Card::card_from, crate::proofs::Literals::round, crate::proofs::Literals::of_bits))]
+#[tactic(auto, unfolding(crate::specs::Card::card_of, crate::specs::Card::card_from, single::proofs::Literals::round, single::proofs::Literals::of_bits))]
 pub fn curtain_card(phi: f32, elements: f32) -> CurtainCard
     ensures { result ≡ card_of phi elements }
 {

@@ -34,7 +34,7 @@ pub(crate) struct EhEv {
 }
 
 // Written where they are returned: a copy of the arrays costs time.
-#[tactic(auto, unfolding(crate::specs::Elements::waves_of, crate::specs::Elements::filled, crate::proofs::Literals::round, crate::proofs::Literals::of_bits))]
+#[tactic(auto, unfolding(crate::specs::Elements::waves_of, crate::specs::Elements::filled, single::proofs::Literals::round, single::proofs::Literals::of_bits))]
 pub(crate) fn element_waves(count: ElementCount, q: f32, h1: f32, dz: f32) -> Waves
     ensures { result ≡ waves_of count.m q h1 dz }
 {
@@ -55,7 +55,7 @@ pub(crate) fn element_waves(count: ElementCount, q: f32, h1: f32, dz: f32) -> Wa
 impl Sums {
     // With one more element, of cosine a and sine b, by the real part c and the imaginary part p of
     // a reflection.
-    #[tactic(auto, unfolding(crate::specs::Elements::plus, crate::proofs::Literals::round, crate::proofs::Literals::of_bits))]
+    #[tactic(auto, unfolding(crate::specs::Elements::plus, single::proofs::Literals::round, single::proofs::Literals::of_bits))]
     fn plus(self, a: f32, b: f32, c: f32, p: f32) -> Self
         ensures { result ≡ plus self a b c p }
     {
@@ -75,7 +75,7 @@ impl Sums {
 
 // With the real parts ch and cv and the imaginary parts ph and pv of the reflections. One loop for
 // both: two took longer than the Rust.
-#[tactic(auto, unfolding(crate::specs::Elements::sums_from, crate::proofs::Literals::round, crate::proofs::Literals::of_bits))]
+#[tactic(auto, unfolding(crate::specs::Elements::sums_from, single::proofs::Literals::round, single::proofs::Literals::of_bits))]
 fn element_sums(count: ElementCount, waves: Waves, ch: f32, ph: f32, cv: f32, pv: f32) -> BothSums
     ensures { (result.h ≡ sums_of count.m waves ch ph) × (result.v ≡ sums_of count.m waves cv pv) }
 {

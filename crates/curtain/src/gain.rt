@@ -12,7 +12,7 @@ pub enum CurtainGain {
 }
 
 // `rain`, already in dB.
-#[tactic(auto, unfolding(crate::specs::Gain::rain_of, crate::proofs::Literals::round, crate::proofs::Literals::of_bits, crate::proofs::Literals::neg))]
+#[tactic(auto, unfolding(crate::specs::Gain::rain_of, single::proofs::Literals::round, single::proofs::Literals::of_bits, single::proofs::Literals::neg))]
 pub fn curtain_rain(gain: CurtainGain) -> f32
     ensures { result ≡ rain_of gain }
 {
@@ -23,7 +23,7 @@ pub fn curtain_rain(gain: CurtainGain) -> f32
 }
 
 // `sok`, by the element slot as it was handed in.
-#[tactic(auto, unfolding(crate::specs::Gain::sok_of, crate::proofs::Literals::round, crate::proofs::Literals::of_bits))]
+#[tactic(auto, unfolding(crate::specs::Gain::sok_of, single::proofs::Literals::round, single::proofs::Literals::of_bits))]
 pub fn curtain_sok(gain: CurtainGain, slot: f32) -> f32
     ensures { result ≡ sok_of gain slot }
 {

@@ -13,7 +13,7 @@ use reflection::Ground;
 
 // What both polarizations have in common. card, row and azimuth come apart here and below: a struct of
 // them would be made anew at each cell.
-#[tactic(auto, unfolding(crate::specs::Pattern::fac6_of, crate::proofs::Literals::round, crate::proofs::Literals::of_bits))]
+#[tactic(auto, unfolding(crate::specs::Pattern::fac6_of, single::proofs::Literals::round, single::proofs::Literals::of_bits))]
 fn fac6(card: CurtainCard, row: CurtainRow, azimuth: Azimuth, t: f32) -> f32
     ensures { result ≡ fac6_of card row azimuth t }
 {
@@ -49,7 +49,7 @@ fn value(
     root::sqrt(eh * eh + ev * ev)
 }
 
-#[tactic(auto, unfolding(crate::specs::Pattern::gain_of, crate::proofs::Literals::round, crate::proofs::Literals::of_bits))]
+#[tactic(auto, unfolding(crate::specs::Pattern::gain_of, single::proofs::Literals::round, single::proofs::Literals::of_bits))]
 pub fn curtain_gain(
     card: CurtainCard,
     row: CurtainRow,

@@ -17,7 +17,7 @@ pub struct CurtainRow {
 }
 
 // A spacing not above 0 is in wavelengths. Not slopes' `ht_of`, which takes 0 as metres.
-#[tactic(auto, unfolding(crate::specs::Row::spacing_of, crate::proofs::Literals::round, crate::proofs::Literals::of_bits))]
+#[tactic(auto, unfolding(crate::specs::Row::spacing_of, single::proofs::Literals::round, single::proofs::Literals::of_bits))]
 fn spacing(v: f32, wave: f32) -> f32
     ensures { result ≡ spacing_of v wave }
 {
@@ -29,7 +29,7 @@ fn spacing(v: f32, wave: f32) -> f32
 }
 
 // The last three of aex are the spacings dy, dz and dx.
-#[tactic(auto, unfolding(crate::specs::Row::row_of, crate::proofs::Literals::round, crate::proofs::Literals::of_bits))]
+#[tactic(auto, unfolding(crate::specs::Row::row_of, single::proofs::Literals::round, single::proofs::Literals::of_bits))]
 pub fn curtain_row(fac: f32, h1: f32, aex: [f32; 4], azimuth: Azimuth, wave: f32) -> CurtainRow
     ensures { result ≡ row_of fac h1 aex azimuth wave }
 {

@@ -21,14 +21,14 @@ pub struct Finished {
 }
 
 // Label 385: into dB.
-#[tactic(auto, unfolding(crate::specs::Finish::decibels_of, parameters::proofs::Literals::round, parameters::proofs::Literals::of_bits))]
+#[tactic(auto, unfolding(crate::specs::Finish::decibels_of, single::proofs::Literals::round, single::proofs::Literals::of_bits))]
 pub fn decibels(rain: f32) -> f32
     ensures { result ≡ decibels_of rain }
 {
     10.0 * elementary::log10(elementary::max_small(rain))
 }
 
-#[tactic(auto, unfolding(crate::specs::Finish::monopole_efficiency, parameters::proofs::Literals::round, parameters::proofs::Literals::of_bits, parameters::proofs::Literals::neg))]
+#[tactic(auto, unfolding(crate::specs::Finish::monopole_efficiency, single::proofs::Literals::round, single::proofs::Literals::of_bits, single::proofs::Literals::neg))]
 fn monopole_efficiency(x: f32) -> f32
     ensures { result ≡ monopole_efficiency x }
 {
@@ -40,7 +40,7 @@ fn monopole_efficiency(x: f32) -> f32
 }
 
 // Label 610: by type. The inverted L has its own.
-#[tactic(auto, unfolding(crate::specs::Finish::efficiency_of, parameters::proofs::Literals::round, parameters::proofs::Literals::of_bits, parameters::proofs::Literals::neg))]
+#[tactic(auto, unfolding(crate::specs::Finish::efficiency_of, single::proofs::Literals::round, single::proofs::Literals::of_bits, single::proofs::Literals::neg))]
 pub fn efficiency(kind: Kind, x: f32, eff8: f32) -> f32
     ensures { result ≡ efficiency_of kind x eff8 }
 {
@@ -53,7 +53,7 @@ pub fn efficiency(kind: Kind, x: f32, eff8: f32) -> f32
 }
 
 // Label 405: efficiency and offset, then the floor, which type 2 alone has not.
-#[tactic(auto, unfolding(crate::specs::Finish::floored, parameters::proofs::Literals::round, parameters::proofs::Literals::of_bits, parameters::proofs::Literals::neg))]
+#[tactic(auto, unfolding(crate::specs::Finish::floored, single::proofs::Literals::round, single::proofs::Literals::of_bits, single::proofs::Literals::neg))]
 pub fn with_floor(kind: Kind, rain: f32, eff: f32, sok: f32) -> f32
     ensures { result ≡ floored kind rain eff sok }
 {
@@ -66,7 +66,7 @@ pub fn with_floor(kind: Kind, rain: f32, eff: f32, sok: f32) -> f32
 }
 
 // The path at elevation 0 and below, at the carried height.
-#[tactic(auto, unfolding(crate::specs::Finish::ground_of, parameters::proofs::Literals::round, parameters::proofs::Literals::of_bits, parameters::proofs::Literals::neg))]
+#[tactic(auto, unfolding(crate::specs::Finish::ground_of, single::proofs::Literals::round, single::proofs::Literals::of_bits, single::proofs::Literals::neg))]
 pub fn ground_gain(kind: Kind, height: f32) -> Finished
     ensures { result ≡ ground_of kind height }
 {

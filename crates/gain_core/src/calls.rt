@@ -24,7 +24,7 @@ pub struct Call {
 }
 
 // What a row's cells blend with; 0 where the type takes none.
-#[tactic(auto, unfolding(crate::specs::Core::zenith_gain_for, parameters::proofs::Literals::round, parameters::proofs::Literals::of_bits))]
+#[tactic(auto, unfolding(crate::specs::Core::zenith_gain_for, single::proofs::Literals::round, single::proofs::Literals::of_bits))]
 pub fn zenith_gain_for(row: Row) -> f32
     ensures { result ≡ zenith_gain_for row }
 {
@@ -36,7 +36,7 @@ pub fn zenith_gain_for(row: Row) -> f32
 
 // Whether a call takes no row: at the ground, outside types 3 and 4, which take the zenith's gain
 // there.
-#[tactic(auto, unfolding(parameters::proofs::Literals::round, parameters::proofs::Literals::of_bits))]
+#[tactic(auto, unfolding(single::proofs::Literals::round, single::proofs::Literals::of_bits))]
 fn without_row(kind: Kind, delta: f32) -> bool
     ensures { result ≡ (le delta (num 0 1) && not (blends_with_zenith kind)) }
 {

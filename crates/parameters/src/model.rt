@@ -29,7 +29,7 @@ impl From<i32> for Model {
 }
 
 // How near to the vertical, in radians, the curtain takes the floor.
-#[tactic(auto, unfolding(crate::specs::Model::curtain_elevation_threshold, crate::proofs::Literals::round, crate::proofs::Literals::of_bits))]
+#[tactic(auto, unfolding(crate::specs::Model::curtain_elevation_threshold, single::proofs::Literals::round, single::proofs::Literals::of_bits))]
 pub fn curtain_elevation_threshold(model: Model) -> f32
     ensures { result ≡ curtain_elevation_threshold model }
 {

@@ -35,7 +35,7 @@ fn params(parm: &[f32; 20], and: f32, anl: f32, anh: f32, aex: [f32; 4]) -> Ionc
 }
 
 // By type, 1 to 10; ground values and zeros for any other. A slot's local has its number from 1.
-#[tactic(auto, unfolding(crate::specs::Params::ioninit_of, crate::specs::Params::is_type, crate::specs::Kind::kind_of, crate::proofs::Literals::round, crate::proofs::Literals::of_bits))]
+#[tactic(auto, unfolding(crate::specs::Params::ioninit_of, crate::specs::Params::is_type, crate::specs::Kind::kind_of, single::proofs::Literals::round, single::proofs::Literals::of_bits))]
 pub fn ioninit(index: i32, parm: &[f32; 20]) -> IoncapParams
     ensures { result ≡ ioninit_of index parm.now }
 {

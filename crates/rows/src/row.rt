@@ -27,7 +27,7 @@ pub struct Row {
 }
 
 // `sok`.
-#[tactic(auto, unfolding(crate::specs::Row::sok_for, parameters::proofs::Literals::round, parameters::proofs::Literals::of_bits))]
+#[tactic(auto, unfolding(crate::specs::Row::sok_for, single::proofs::Literals::round, single::proofs::Literals::of_bits))]
 fn sok_for(kind: Kind, params: IoncapParams) -> f32
     ensures { result ≡ sok_for kind params }
 {
@@ -39,7 +39,7 @@ fn sok_for(kind: Kind, params: IoncapParams) -> f32
 }
 
 // `x`.
-#[tactic(auto, unfolding(crate::specs::Row::height_for, parameters::proofs::Literals::round, parameters::proofs::Literals::of_bits))]
+#[tactic(auto, unfolding(crate::specs::Row::height_for, single::proofs::Literals::round, single::proofs::Literals::of_bits))]
 fn height_for(kind: Kind, leg: Length, wave: f32) -> f32
     ensures { result ≡ height_for kind leg wave }
 {
@@ -52,7 +52,7 @@ fn height_for(kind: Kind, leg: Length, wave: f32) -> f32
 }
 
 // `eff8`.
-#[tactic(auto, unfolding(crate::specs::Row::eff8_for, parameters::proofs::Literals::round, parameters::proofs::Literals::of_bits))]
+#[tactic(auto, unfolding(crate::specs::Row::eff8_for, single::proofs::Literals::round, single::proofs::Literals::of_bits))]
 fn eff8_for(pattern: Pattern) -> f32
     ensures { result ≡ eff8_for pattern }
 {
