@@ -20,12 +20,14 @@ pub struct Elevation {
     pub s: f32,
 }
 
+#[tactic(auto, unfolding(crate::specs::Angles::wave_of, single::proofs::Literals::round, single::proofs::Literals::of_bits))]
 pub fn wave_of(fmc: f32) -> f32
     ensures { result ≡ wave_of fmc }
 {
     299.7925 / fmc
 }
 
+#[tactic(auto, unfolding(crate::specs::Angles::radians_of, single::proofs::Literals::round, single::proofs::Literals::of_bits))]
 pub fn radians_of(degrees: f32) -> f32
     ensures { result ≡ radians_of degrees }
 {

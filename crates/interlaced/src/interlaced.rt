@@ -18,6 +18,7 @@ pub struct Offset {
     pub wavenumber: f32,
 }
 
+#[tactic(auto, unfolding(crate::specs::Interlaced::offset_of, single::proofs::Literals::round, single::proofs::Literals::of_bits))]
 pub fn offset_of(ht: f32, ss: f32, wave: f32) -> Offset
     ensures { result ≡ offset_of ht ss wave }
 {
@@ -50,6 +51,7 @@ fn y_of(offset: Offset, e: Elevation, cb: f32) -> f32
 }
 
 // The power of both rhombics and their images, the sines and cosines of their phases given.
+#[tactic(auto, unfolding(crate::specs::Interlaced::h1v_of, crate::specs::Interlaced::h2_of, crate::specs::Interlaced::hk_of, single::proofs::Literals::round, single::proofs::Literals::of_bits))]
 fn hk_of(c: f32, yh: SineCosine, y: SineCosine, z: SineCosine) -> f32
     ensures { result ≡ hk_of c yh y z }
 {
@@ -71,6 +73,7 @@ fn hk_of(c: f32, yh: SineCosine, y: SineCosine, z: SineCosine) -> f32
 }
 
 // `rain`, before it is taken to dB.
+#[tactic(auto, unfolding(crate::specs::Interlaced::z_of, crate::specs::Interlaced::interlaced_of, single::proofs::Literals::round, single::proofs::Literals::of_bits))]
 pub fn interlaced_rain(legs: Legs, offset: Offset, e: Elevation, earth: Ground) -> f32
     ensures { result ≡ interlaced_of legs offset e earth }
 {

@@ -39,6 +39,7 @@ pub fn legs_of(phi: f32, azimuth: Azimuth, fac: f32, hwave: f32) -> Legs
     }
 }
 
+#[tactic(auto, unfolding(crate::specs::Legs::u1_of, crate::specs::Legs::u2_of, crate::specs::Legs::elfac_of, single::proofs::Literals::round, single::proofs::Literals::of_bits))]
 pub fn elfac(legs: Legs, e: Elevation) -> f32
     ensures { result ≡ elfac_of legs e }
 {

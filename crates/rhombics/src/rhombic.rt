@@ -7,6 +7,7 @@ use angles::Elevation;
 use reflection::Ground;
 
 // `rain`, before it is taken to dB.
+#[tactic(auto, unfolding(crate::specs::Rhombic::rhombic_of, elementary::specs::Basic::square, single::proofs::Literals::round, single::proofs::Literals::of_bits))]
 pub fn rhombic_rain(legs: Legs, e: Elevation, earth: Ground) -> f32
     ensures { result ≡ rhombic_of legs e earth }
 {

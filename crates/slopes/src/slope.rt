@@ -34,6 +34,7 @@ pub struct SlopingLegs {
 
 // The other end's height in wavelengths, from the first extra: negative in wavelengths, any other
 // in metres.
+#[tactic(auto, unfolding(crate::specs::Slope::ht_of, single::proofs::Literals::round, single::proofs::Literals::of_bits))]
 fn ht_of(aex1: f32, wave: f32) -> f32
     ensures { result ≡ ht_of aex1 wave }
 {
@@ -53,6 +54,7 @@ impl SlopingLegs {
     }
 
     // By the slope's sine. The legs' angle in their own sloping plane is the Rust's second `rhi`.
+    #[tactic(auto, unfolding(crate::specs::Slope::slope_of, single::proofs::Literals::round, single::proofs::Literals::of_bits))]
     fn slope_of(self, g: f32) -> Slope
         ensures { result ≡ slope_of self g }
     {
@@ -83,6 +85,7 @@ impl SlopingLegs {
     }
 
     // From end to end lie two legs.
+    #[tactic(auto, unfolding(crate::specs::Slope::rhombic_slope, single::proofs::Literals::round, single::proofs::Literals::of_bits))]
     pub fn rhombic_slope(self) -> Slope
         ensures { result ≡ rhombic_slope self }
     {

@@ -34,6 +34,7 @@ pub struct Field {
     pub im: f32,
 }
 
+#[tactic(auto, unfolding(crate::specs::Direction::direction_of, single::proofs::Literals::round, single::proofs::Literals::of_bits))]
 pub(crate) fn direction_of(slope: Slope, elevation: Elevation) -> Direction
     ensures { result ≡ direction_of slope elevation }
 {

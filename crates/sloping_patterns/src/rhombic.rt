@@ -15,6 +15,7 @@ pub struct LegPair {
     pub b: f32,
 }
 
+#[tactic(auto, unfolding(crate::specs::Rhombic::leg_pair_of, single::proofs::Literals::round, single::proofs::Literals::of_bits))]
 fn leg_pair_of(fac2: f32, first: f32, second: f32) -> LegPair
     ensures { result ≡ leg_pair_of fac2 first second }
 {
@@ -44,6 +45,7 @@ fn field_of(x: f32, y: f32, c: f32, w: SineCosine, legs: LegPair, images: LegPai
     }
 }
 
+#[tactic(auto, unfolding(crate::specs::Rhombic::sloping_rhombic_rain, single::proofs::Literals::round, single::proofs::Literals::of_bits))]
 pub fn sloping_rhombic_rain(slope: Slope, elevation: Elevation, earth: Ground) -> f32
     ensures { result ≡ sloping_rhombic_rain slope elevation earth }
 {

@@ -24,6 +24,7 @@ pub struct LegPhases {
     pub p4: LegPhase,
 }
 
+#[tactic(auto, unfolding(crate::specs::Vee::leg_phase_of, single::proofs::Literals::round, single::proofs::Literals::of_bits))]
 fn leg_phase_of(x: f32) -> LegPhase
     ensures { result ≡ leg_phase_of x }
 {
@@ -88,6 +89,7 @@ fn vertical_of(d: Direction, p: LegPhases, w: SineCosine, cv: f32) -> Field
     }
 }
 
+#[tactic(auto, unfolding(crate::specs::Vee::vee_rain, single::proofs::Literals::round, single::proofs::Literals::of_bits))]
 pub fn vee_rain(slope: Slope, elevation: Elevation, earth: Ground) -> f32
     ensures { result ≡ vee_rain slope elevation earth }
 {
