@@ -4,21 +4,21 @@ ghost use Rattle.single.specs.Answer.{IsAnswer};
 ghost use Rattle.integrals.specs.Settled.{unsettled_number, settled_value};
 ghost use Rattle.patterns.specs.Pattern.{pattern_settles};
 ghost use Rattle.patterns.specs.declared.pattern.Pattern.TheVariants as P;
-ghost use Rattle.patterns.specs.Pattern.{settled_at, dipole_of, monopole_for, inverted_l_of, sloping_of, pattern_by, pattern_of, power_of};
+ghost use Rattle.patterns.specs.Pattern.{settled_at, sloping_of, pattern_by, pattern_of, power_of};
 
 use angles::{Azimuth, Elevation};
 use antennas::Antenna;
 use curtain::{CurtainCard, CurtainRow};
-use dipoles::Dipole;
+use dipoles::{Dipole, dipole_row};
 use integrals::{Settled, Turns};
 use interlaced::Offset;
-use inverted_l::InvertedL;
-use lengths::{HEIGHT_TURN, LegInWaves, Length, PhaseInWaves};
+use inverted_l::{InvertedL, inverted_l_row};
+use lengths::{HEIGHT_TURN, LegInWaves, PhaseInWaves};
 use parameters::Kind;
 use reflection::Ground;
 use rhombics::Legs;
 use slopes::{Slope, SlopingLegs};
-use verticals::Monopole;
+use verticals::{Monopole, monopole_row};
 
 // What a row's cells take, by type. Other: a type outside 1 to 10, which has no pattern.
 #[derive(Clone, Copy)]
@@ -45,30 +45,6 @@ fn settled(pattern: Pattern) -> Option<Settled<Pattern>>
     })
 }
 
-#[tactic(auto, unfolding(crate::specs::Pattern::dipole_of))]
-fn dipole_of(fac: f32, hwave: f32) -> Option<Settled<Pattern>>
-    ensures { result ≡ dipole_of fac hwave }
-{
-    let row = dipoles::dipole_row(fac, hwave)?;
-    Some(row.with(Pattern::Wire(row.value)))
-}
-
-#[tactic(auto, unfolding(crate::specs::Pattern::monopole_for))]
-fn monopole_of(leg: Length, wave: f32) -> Option<Settled<Pattern>>
-    ensures { result ≡ monopole_for leg wave }
-{
-    let row = verticals::monopole_row(leg, wave)?;
-    Some(row.with(Pattern::Vertical(row.value)))
-}
-
-#[tactic(auto, unfolding(crate::specs::Pattern::inverted_l_of))]
-fn inverted_l_of(fac: f32, hwave: f32) -> Option<Settled<Pattern>>
-    ensures { result ≡ inverted_l_of fac hwave }
-{
-    let row = inverted_l::inverted_l_row(fac, hwave)?;
-    Some(row.with(Pattern::Inverted(row.value)))
-}
-
 // The legs of a sloping antenna, in wavelengths.
 fn sloping_of(antenna: Antenna, wave: f32, leg: LegInWaves, height: PhaseInWaves) -> SlopingLegs
     ensures { result ≡ sloping_of antenna wave leg height }
@@ -84,6 +60,7 @@ fn sloping_of(antenna: Antenna, wave: f32, leg: LegInWaves, height: PhaseInWaves
 }
 
 // What a row takes at a wavelength, by type, of its leg and height in wavelengths.
+#[tactic(auto, unfolding(crate::specs::Pattern::dipole_of, crate::specs::Pattern::monopole_for, crate::specs::Pattern::inverted_l_of))]
 fn pattern_by(
     antenna: Antenna,
     wave: f32,
@@ -104,15 +81,21 @@ fn pattern_by(
             rhombics::legs_of(phi, azimuth, fac, hwave),
             interlaced::offset_of(aex[0], aex[1], wave),
         )),
-        Kind::InvertedL => inverted_l_of(fac, hwave),
+        Kind::InvertedL => {
+            inverted_l_row(fac, hwave).map(|row| row.with(Pattern::Inverted(row.value)))
+        }
         Kind::SlopingVee => settled(Pattern::Vee(sloping.vee_slope())),
         Kind::SlopingRhombic => settled(Pattern::SlopingRhombic(sloping.rhombic_slope())),
         Kind::Curtain => settled(Pattern::Curtain(
             curtain::curtain_card(phi, aex[0]),
             curtain::curtain_row(fac, above.waves, aex, azimuth, wave),
         )),
-        Kind::Dipole | Kind::Yagi => dipole_of(fac, hwave),
-        Kind::Monopole | Kind::LogPeriodic => monopole_of(antenna.leg, wave),
+        Kind::Dipole | Kind::Yagi => {
+            dipole_row(fac, hwave).map(|row| row.with(Pattern::Wire(row.value)))
+        }
+        Kind::Monopole | Kind::LogPeriodic => {
+            monopole_row(antenna.leg, wave).map(|row| row.with(Pattern::Vertical(row.value)))
+        }
         Kind::Other => settled(Pattern::Other),
     }
 }

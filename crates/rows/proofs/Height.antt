@@ -64,7 +64,8 @@ metres_finite : (v wave : Float) → Mag 1000 v → AtLeast (2 ^ 3) wave → T (
 unfolding phase_of
 metres_finite v wave m w = go (lt (num 0 1) v)
   where
-    go : (b : Bool) → T (finite (cond b (record { phase = num 6283185 1000000 ⊠ v ⊘ wave; waves = v ⊘ wave }) (in_waves (num 6283185 1000000) (absolute v))).waves)
+    go : (b : Bool)
+        → T (finite (cond b (record { phase = num 6283185 1000000 ⊠ v ⊘ wave; waves = v ⊘ wave }) (in_waves (num 6283185 1000000) (absolute v))).waves)
     go true = in_waves_lem v wave m w
     go false = mag_finite 1000 (absolute v) (absolute_mag 1000 v m)
 
