@@ -1,10 +1,12 @@
 -- Refusal 11 arises in a pattern where, and only where, its type takes integrals and one of them is unsettled. Assumes nothing.
-use mathlib.Core.Path.{◌≡◌, refl, ◌∙◌}
+use mathlib.Core.Path.{◌≡◌, refl, sym, ◌∙◌}
 use lib.Ieee.{Float}
 use Rattle.std.specs.Prelude.{Option}
 use Rattle.lengths.specs.Length.{leg_of, phase_of, height_turn}
 use Rattle.parameters.specs.declared.kind.Kind.{Kind}
 use Rattle.parameters.specs.declared.kind.Kind.TheVariants as K
+use Rattle.lengths.specs.declared.length.PhaseInWaves.{PhaseInWaves}
+use Rattle.lengths.specs.declared.length.LegInWaves.{LegInWaves}
 use Rattle.single.specs.Answer.{IsAnswer}
 use Rattle.integrals.specs.Settled.{settled_number, unsettled_number, settled_value}
 use Rattle.integrals.specs.declared.settled.Settled.{Settled}
@@ -41,3 +43,10 @@ module _ (antenna : Antenna) (wave : Float) where
   pub pattern_answers : (r : Option (Settled Pattern)) → r ≡ pattern_of antenna wave
       → IsAnswer unsettled_number (settled_value P.Other) P.Other 11 (pattern_of antenna wave) (pattern_settles antenna wave) r
   pattern_answers = settled_answers P.Other (pattern_of antenna wave) (pattern_settles antenna wave) pattern_number_lem
+
+  -- of a type that is known, by its leg and height in wavelengths
+  pub type_answers : {k : Kind} (leg : LegInWaves) (height : PhaseInWaves) (r : Option (Settled Pattern)) → antenna.kind ≡ k
+      → leg ≡ leg_of antenna.leg wave → height ≡ phase_of height_turn antenna.height wave → r ≡ pattern_by k antenna wave leg height
+      → IsAnswer unsettled_number (settled_value P.Other) P.Other 11 (pattern_of antenna wave) (pattern_settles antenna wave) r
+  unfolding pattern_of
+  type_answers leg height r k l h e = pattern_answers r (e ∙ (λ i. pattern_by (sym k i) antenna wave (l i) (h i)))
