@@ -10,15 +10,11 @@ use refusals::Refusal;
 use std::io;
 
 fn print_number(rt: &impl Print, n: u32) -> io::Result<()> {
-    let mut field = [b' '; 3];
-    output::i(n as i64, &mut field);
-    rt.write_all(&field)
+    rt.write_all(&output::integer_columns::<3>(n as i64))
 }
 
 fn print_value(rt: &impl Print, x: f32) -> io::Result<()> {
-    let mut field = [b' '; 8];
-    output::hundredths_field(x, &mut field);
-    rt.write_all(&field)
+    rt.write_all(&output::hundredths_columns::<8>(x))
 }
 
 fn print_text(rt: &impl Print, text: &[u8]) -> io::Result<()> {
