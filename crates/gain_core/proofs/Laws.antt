@@ -1,10 +1,12 @@
 -- Laws of the gain call that a deck rests on: what the ground gives, what depends on the carried height, the height left, the floor. Assumes nothing.
-use Rattle.std.specs.Prelude.{◌≡◌, true, false, ◌||◌, T, ◌⊎◌, Option, Some, None}
+use Rattle.std.specs.Prelude.{◌≡◌, ℕ, true, false, ◌||◌, eqb, T, ◌⊎◌, Option, Some, None}
 use mathlib.Core.Path.{refl, sym, ap, ◌∙◌}
 use mathlib.Core.Bool.{true≢false}
+use native.Mathlib.Omega.{arith}
 use lib.Ieee.{Float, nan, lt, le}
+use Rattle.std.proofs.lemmas.Bool.Decides.{nat_tests}
 use Rattle.single.specs.Single.{◌⊞◌, num}
-use Rattle.parameters.specs.Kind.{is_kind}
+use Rattle.parameters.specs.Kind.{number_of, is_kind}
 use Rattle.parameters.specs.declared.kind.Kind.{Kind}
 use Rattle.parameters.specs.declared.kind.Kind.TheVariants as K
 use Rattle.lengths.specs.declared.length.Length.{Length}
@@ -21,6 +23,7 @@ use Rattle.rows.specs.declared.row.Row.{Row}
 use Rattle.integrals.specs.Settled.{unsettled_number}
 use Rattle.integrals.specs.declared.settled.Settled.{Settled}
 use Rattle.rows.proofs.Height.{Own, OfRow, row_own}
+use Rattle.cells.proofs.Blends.{blends_kind}
 use Rattle.cells.specs.Cell.{blends_with_zenith, cell_by, cell_of, cell_gain, power_cell, curtain_cell}
 use Rattle.gain_core.specs.Core.{above_from, above_ground, ground_from, at_ground, work_of}
 use Rattle.gain_core.specs.declared.calls.Call.{Call}
@@ -71,19 +74,11 @@ unfolding at_ground ground_of
 ground_value antenna fmc e height u = rw (u, ground_gain_lem antenna.kind height) refl
 
 -- ---- types 3 and 4 are not 2 or 5: at the ground they depend on no height, and leave 1
+not_two_or_five : (n : ℕ) → (eqb n 3 || eqb n 4) ≡ true → (eqb n 2 || eqb n 5) ≡ false
+not_two_or_five n t = grind (arith, nat_tests)
+
 other_types : (kind : Kind) → blends_with_zenith kind ≡ true → (is_kind kind 2 || is_kind kind 5) ≡ false
-unfolding blends_with_zenith
-other_types K.Rhombic t = refl
-other_types K.Monopole t = absurd (true≢false (sym t))
-other_types K.Dipole t = refl
-other_types K.Yagi t = refl
-other_types K.LogPeriodic t = absurd (true≢false (sym t))
-other_types K.Curtain t = refl
-other_types K.SlopingVee t = refl
-other_types K.InvertedL t = refl
-other_types K.SlopingRhombic t = refl
-other_types K.InterlacedRhombic t = refl
-other_types K.Other t = refl
+other_types kind t = not_two_or_five (number_of kind) (sym (blends_kind kind) ∙ t)
 
 zenith_own : (kind : Kind) (leg : Length) (wave : Float) → blends_with_zenith kind ≡ true → height_for kind leg wave ≡ num 1 1
 unfolding blends_with_zenith height_for
