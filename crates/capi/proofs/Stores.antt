@@ -25,7 +25,8 @@ filled d a b c x y =
     let none : post_of 8 (length xs - 8) xs ≡ [] = drop_all (length xs - 8) (drop 8 xs) (simp length-drop (omega arith)) in
     rw (two, none, append-nil c, append_assoc a b c)
 
-pub answer_filled : (d : List ℕ) (gain efficiency height : Float) (a b c : List ℕ) → a ≡ bytes_of gain → b ≡ bytes_of efficiency → c ≡ bytes_of height
+pub answer_filled : (d : List ℕ) (gain efficiency height : Float) (a b c : List ℕ)
+    → a ≡ bytes_of gain → b ≡ bytes_of efficiency → c ≡ bytes_of height
     → let xs = put_mid 4 4 (a ++ drop 4 d) b in put_mid 8 (length xs - 8) xs c ≡ answer_bytes gain efficiency height
 unfolding answer_bytes
 answer_filled d gain efficiency height a b c x y z =

@@ -8,7 +8,8 @@ use Rattle.ioncap.specs.declared.gain.GainCall.{GainCall}
 use Rattle.capi.specs.Answer.{answer_length, answer_bytes, answered}
 
 -- the nine parameters are in `IoncapParams`' order
-abbrev pub call_of : ℤ → Float → Float → Float → Float → Float → Float → Float → Float → Float → Float → Float → Float → ℤ → GainCall
+abbrev pub call_of : ℤ → Float → Float → Float → Float → Float → Float → Float → Float → Float → Float → Float
+    → Float → ℤ → GainCall
 call_of kop toaz asig aeps and anl anh aex1 aex2 aex3 aex4 delta fmc model =
     record {
       kop = kop;

@@ -22,7 +22,8 @@ wide : List (List Float) → Bool
 wide [] = true
 wide (r ∷ rs) = eqb (length r) 22 && wide rs
 
-step : (a : Float) (bs : List Float) → T (rises_from a bs) → (i : ℕ) → suc i < length (a ∷ bs) → T (lt (get_or (a ∷ bs) i nan) (get_or (a ∷ bs) (suc i) nan))
+step : (a : Float) (bs : List Float) → T (rises_from a bs) → (i : ℕ) → suc i < length (a ∷ bs)
+    → T (lt (get_or (a ∷ bs) i nan) (get_or (a ∷ bs) (suc i) nan))
 unfolding rises_from
 step a [] t i h = absurd (not-suc-le-zero (le_of_suc-le-suc h))
 step a (b ∷ bs) t zero h = and_l (lt a b) (rises_from b bs) t
