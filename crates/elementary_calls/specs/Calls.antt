@@ -4,7 +4,8 @@ use Rattle.std.specs.Float.{binary32}
 use Rattle.std.specs.Float.Ieee.{to_bits}
 use Rattle.root.specs.Root.{root}
 use Rattle.elementary_calls.specs.declared.Function.{Function}
-use Rattle.elementary_calls.specs.declared.Function.TheVariants.{Abs, MaxSmall, Cut, Powi2, Powi4, Sin, Cos, SineOfBoth, CosineOfBoth, Tan, Atan, Asin, Ln, Log10, Root}
+use Rattle.elementary_calls.specs.declared.Function.TheVariants.{Abs, MaxSmall, Cut, Powi2, Powi4, Sin, Cos, SineOfBoth, CosineOfBoth}
+use Rattle.elementary_calls.specs.declared.Function.TheVariants.{Tan, Atan, Asin, Ln, Log10, Root}
 use Rattle.elementary.specs.Basic.{absolute, max_small, cut_toward, square, fourth}
 use Rattle.elementary.specs.Trigonometric.{sine, cosine, tangent}
 use Rattle.elementary.specs.Arctangent.{arctangent, arcsine}

@@ -1,4 +1,5 @@
--- Number and values together tell answers apart, so that `cisi`'s contract gives its answer whole; it accepts exactly what is within the limits and settles. Assumes nothing.
+-- Number and values together tell answers apart, so that `cisi`'s contract gives its answer whole; it accepts exactly what is within
+-- the limits and settles. Assumes nothing.
 use mathlib.Core.Path.{◌≡◌, refl, sym, ap, ◌∙◌}
 use mathlib.Core.Bool.{Bool, true, false, cond, ◌&&◌}
 use mathlib.Core.Logic.{◌↔◌}

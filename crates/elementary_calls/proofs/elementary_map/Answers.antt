@@ -23,10 +23,15 @@ answers_at f [] k h = absurd (let z : k < 0 = h in omega arith)
 answers_at f (x ∷ xs) zero h = refl
 answers_at f (x ∷ xs) (suc k) h = answers_at f xs k (le_of_suc-le-suc h)
 
-filled : (f : ℕ) (g : Function) (xs : List Float) (out : List ℕ) → g ≡ function_of f → length out ≡ length xs → ((k : ℕ) → k < length xs → get_or out k 0 ≡ answer_by g (get_or xs k nan)) → out ≡ answers f xs
-filled f g xs out is e h =
-    ext_get_or 0 out (answers f xs) (e ∙ sym (answers_length f xs))
-    (λ k l. let z : k < length xs = omega arith in h k z ∙ ap (λ (y : Function). answer_by y (get_or xs k nan)) is ∙ answer_is f (get_or xs k nan) ∙ sym (answers_at f xs k z))
+filled : (f : ℕ) (g : Function) (xs : List Float) (out : List ℕ) → g ≡ function_of f → length out ≡ length xs
+    → ((k : ℕ) → k < length xs → get_or out k 0 ≡ answer_by g (get_or xs k nan)) → out ≡ answers f xs
+filled f g xs out is e h = ext_get_or 0 out (answers f xs) (e ∙ sym (answers_length f xs)) at
+  where
+    at : (k : ℕ) → k < length out → get_or out k 0 ≡ get_or (answers f xs) k 0
+    at k l =
+        let z : k < length xs = omega arith in
+        let x = get_or xs k nan in
+        h k z ∙ ap (λ (y : Function). answer_by y x) is ∙ answer_is f x ∙ sym (answers_at f xs k z)
 
 pub returns-then-xs-out : goal.returns-then-xs-out
 unfolding map_number mapped
@@ -38,4 +43,6 @@ returns c =
     let l = c.loop-i in
     let a = c.args in
     let e = eq-eqb (length a.xs.now) (length a.out.now) c.if-xs-out.false in
-    record { value = simp e; out_after = simp e (filled a.function c.from-function.result a.xs.now l.out c.from-function.ensures l.invariant.0 (λ k h. l.invariant.1 k (omega arith))) }
+    let is = c.from-function.ensures in
+    let out = filled a.function _ a.xs.now l.out is l.invariant.0 (λ k h. l.invariant.1 k (omega arith)) in
+    record { value = simp e; out_after = simp e out }
