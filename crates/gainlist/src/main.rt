@@ -2,69 +2,73 @@
 // `step` and `finish` give, in turn.
 #![tactic(auto)]
 
-ghost use Rattle.std.specs.Prelude.{◌+◌, ◌≤◌, length, IfOk};
+ghost use Rattle.std.specs.Prelude.{◌+◌, ◌≤◌};
 ghost use Rattle.listing.specs.Sizes.{most_text};
-ghost use Rattle.listing.specs.Ready.{Ready};
 
-use listing::{MOST_HELD, ROOM, Session};
+use listing::{MOST_HELD, ROOM, Session, Stepped};
 use std::io::{ErrorKind, Read, Result, Stderr, Stdin, Stdout, Write};
 use std::process::ExitCode;
-use table::TABLE_LENGTH;
+use table::{TABLE_LENGTH, Table};
 
 // Of the input that is read at once, and of the text that is written at once.
 const PIECE: usize = 65536;
 
-// Text not written yet ends at `at`.
+// What each step works on: a line's bytes, a card's table, and text that is not written yet.
+#[derive(Drop)]
+struct Buffers {
+    line: [u8; MOST_HELD],
+    table: Table,
+    out: [u8; PIECE],
+}
+
+// Text not written yet ends at `at`. The next step has room.
 #[derive(Clone, Copy)]
 struct State {
     session: Session,
     at: usize,
+    ghost room: { at + most_text ≤ 65536 },
 }
 
-fn flush(mut to: Stdout, state: State, out: &[u8]) -> Result<State>
-    requires { state.at ≤ length out.now }
-    ensures { IfOk result (λ s. s.at ≤ 0) }
-{
-    to.write_all(&out[..state.at])?;
-    Ok(State { at: 0, ..state })
+fn all_written(session: Session) -> State {
+    State { session, at: 0 }
 }
 
 // So that the next step has room.
-fn flush_full(to: Stdout, state: State, out: &[u8]) -> Result<State>
-    requires { (most_text ≤ length out.now) × (state.at ≤ length out.now) }
-    ensures { IfOk result (λ s. s.at + most_text ≤ length out.now) }
+fn flush_full(mut to: Stdout, stepped: Stepped, out: &[u8; PIECE]) -> Result<State>
+    requires { stepped.at ≤ 65536 }
 {
-    if state.at <= out.len() - ROOM {
-        return Ok(state);
+    let Stepped { session, at, .. } = stepped;
+    if at <= PIECE - ROOM {
+        return Ok(State { session, at });
     }
-    flush(to, state, out)
+    to.write_all(&out[..at])?;
+    Ok(all_written(session))
 }
 
-// The whole piece: lines that end in it are listed, the rest is held. A step takes as many bytes as a
-// line has, so no `for` counts them.
+// The whole piece: lines that end in it are listed and their text is written, the rest is held. A
+// step takes as many bytes as a line has, so no `for` counts them.
 fn list_piece(
-    to: Stdout,
-    state: State,
-    line: &mut [u8],
+    mut to: Stdout,
+    session: Session,
+    buffers: &mut Buffers,
     piece: &[u8],
-    table: &mut [f32],
-    out: &mut [u8],
-) -> Result<State>
-    requires { Ready line.old table.old out.old state.at }
-    ensures { IfOk result (λ s. s.at + most_text ≤ length out.old) }
-{
-    let mut s = state;
+) -> Result<Session> {
+    let mut s = all_written(session);
     let mut used: usize = 0;
     while used < piece.len() {
-        let r = listing::step(s.session, line, &piece[used..], table, out, s.at);
-        let stepped = State {
-            session: r.session,
-            at: r.at,
-        };
-        s = flush_full(to, stepped, out)?;
+        let r = listing::step(
+            s.session,
+            &mut buffers.line,
+            &piece[used..],
+            &mut buffers.table,
+            &mut buffers.out,
+            s.at,
+        );
+        s = flush_full(to, r, &buffers.out)?;
         used += r.used;
     }
-    Ok(s)
+    to.write_all(&buffers.out[..s.at])?;
+    Ok(s.session)
 }
 
 // To the end of the input. Text is written before the next read, so that who sends cards one by one
@@ -72,43 +76,32 @@ fn list_piece(
 fn list_all(
     mut from: Stdin,
     to: Stdout,
-    line: &mut [u8],
+    buffers: &mut Buffers,
     input: &mut [u8],
-    table: &mut [f32],
-    out: &mut [u8],
-) -> Result<State>
-    requires { Ready line.old table.old out.old 0 }
-    ensures { IfOk result (λ s. s.at + most_text ≤ length out.old) }
-{
-    let mut state = State {
-        session: listing::start(),
-        at: 0,
-    };
+) -> Result<Session> {
+    let mut session = listing::start();
     for _ in 0..u64::MAX {
         let n = from.read(input)?;
         if n == 0 {
             break;
         }
-        let listed = list_piece(to, state, line, &input[..n], table, out)?;
-        state = flush(to, listed, out)?;
+        session = list_piece(to, session, buffers, &input[..n])?;
     }
-    Ok(state)
+    Ok(session)
 }
 
 // The counts of a part would look like those of the whole: none are written where a read failed.
-fn run(
-    rt: &HostRuntime,
-    line: &mut [u8],
-    input: &mut [u8],
-    table: &mut [f32],
-    out: &mut [u8],
-) -> Result<()>
-    requires { Ready line.old table.old out.old 0 }
-{
+fn run(rt: &HostRuntime, buffers: &mut Buffers, input: &mut [u8]) -> Result<()> {
     let mut to = rt.stdout();
-    let State { session, at } = list_all(rt.stdin(), to, line, input, table, out)?;
-    let end = listing::finish(session, line, table, out, at);
-    to.write_all(&out[..end])
+    let session = list_all(rt.stdin(), to, buffers, input)?;
+    let end = listing::finish(
+        session,
+        &buffers.line,
+        &mut buffers.table,
+        &mut buffers.out,
+        0,
+    );
+    to.write_all(&buffers.out[..end])
 }
 
 // Where nobody reads on it says nothing, and ends with the status of a program that SIGPIPE ended.
@@ -122,11 +115,13 @@ fn report_failure(mut errors: Stderr, kind: ErrorKind) -> ExitCode {
 }
 
 fn main(rt: HostRuntime) -> ExitCode {
-    let mut line = [0u8; MOST_HELD];
-    let mut table = [0.0f32; TABLE_LENGTH];
+    let mut buffers = Buffers {
+        line: [0u8; MOST_HELD],
+        table: [0.0f32; TABLE_LENGTH],
+        out: [0u8; PIECE],
+    };
     let mut input = [0u8; PIECE];
-    let mut out = [0u8; PIECE];
-    match run(&rt, &mut line, &mut input, &mut table, &mut out) {
+    match run(&rt, &mut buffers, &mut input) {
         Ok(()) => ExitCode::SUCCESS,
         Err(e) => report_failure(rt.stderr(), e.kind()),
     }
