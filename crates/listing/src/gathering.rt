@@ -7,6 +7,8 @@ ghost use Rattle.listing.specs.Gathering.{GatherDone};
 // A line of more than 119 bytes is malformed, so no more than these are held.
 pub const MOST_HELD: usize = 120;
 
+const LINE_FEED: u8 = b'\n';
+
 // Lent by the caller: no memory of its own. How many of its first bytes are held is the session's.
 pub(crate) type LineBuffer = [u8; MOST_HELD];
 
@@ -42,7 +44,7 @@ pub(crate) fn gather(line: &mut LineBuffer, held: usize, piece: &[u8]) -> Gather
 {
     let mut len = held_in(held);
     for i in 0..piece.len() {
-        if piece[i] == b'\n' {
+        if piece[i] == LINE_FEED {
             return Gathered {
                 held: len,
                 end: Some(i + 1),
