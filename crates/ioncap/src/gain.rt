@@ -53,14 +53,14 @@ fn call_outside(call: GainCall) -> bool
     limits::any_outside(&numbers) || limits::any_outside(&aex)
 }
 
-#[tactic(auto, unfolding(crate::specs::Gain::mhz_outside, parameters::proofs::Literals::round, parameters::proofs::Literals::of_bits))]
+#[tactic(auto, unfolding(crate::specs::Gain::mhz_outside, single::proofs::Literals::round, single::proofs::Literals::of_bits))]
 fn mhz_outside(fmc: f32) -> bool
     ensures { result ≡ mhz_outside fmc }
 {
     !(1.0 <= fmc) || !(fmc <= 30.0)
 }
 
-#[tactic(auto, unfolding(crate::specs::Gain::call_refusal, limits::specs::Refusals::first_refusal, limits::specs::Tests::input_refusal, parameters::proofs::Literals::round, parameters::proofs::Literals::of_bits), using(refusals::proofs::Refusals::is_judged))]
+#[tactic(auto, unfolding(crate::specs::Gain::call_refusal, limits::specs::Refusals::first_refusal, limits::specs::Tests::input_refusal, single::proofs::Literals::round, single::proofs::Literals::of_bits), using(refusals::proofs::Refusals::is_judged))]
 fn call_refusal(call: GainCall, height: f32) -> Result<(), Refusal>
     ensures { IsJudged (call_refusal call height) result }
 {
