@@ -8,7 +8,7 @@ use refusals::Refusal;
 
 // `gain_lookup` at fmc MHz and an elevation of delta radians, in a table of 11,040 bytes.
 #[unsafe(no_mangle)]
-#[tactic(auto, unfolding(crate::specs::Entries::lookup_result, crate::specs::Entries::lookup_answer, crate::specs::Answer::numbered, crate::specs::Answer::answered, parameters::proofs::Literals::round, parameters::proofs::Literals::of_bits))]
+#[tactic(auto, unfolding(crate::specs::Entries::lookup_result, crate::specs::Entries::lookup_answer, crate::specs::Answer::numbered, crate::specs::Answer::answered, single::proofs::Literals::round, single::proofs::Literals::of_bits))]
 pub extern "C" fn ioncap_lookup(table: &[u8], fmc: f32, delta: f32, answer: &mut [u8]) -> u32
     ensures value { result ≡ lookup_result table.now fmc delta answer.old }
     ensures answer_after { answer.new ≡ lookup_answer table.now fmc delta answer.old }
@@ -30,7 +30,7 @@ pub extern "C" fn ioncap_lookup(table: &[u8], fmc: f32, delta: f32, answer: &mut
 
 // `invcon` at freq MHz and an elevation of elev_deg degrees.
 #[unsafe(no_mangle)]
-#[tactic(auto, unfolding(crate::specs::Entries::cone_result, crate::specs::Entries::cone_answer, crate::specs::Answer::numbered, crate::specs::Answer::answered, parameters::proofs::Literals::round, parameters::proofs::Literals::of_bits))]
+#[tactic(auto, unfolding(crate::specs::Entries::cone_result, crate::specs::Entries::cone_answer, crate::specs::Answer::numbered, crate::specs::Answer::answered, single::proofs::Literals::round, single::proofs::Literals::of_bits))]
 pub extern "C" fn ioncap_cone(freq: f32, elev_deg: f32, answer: &mut [u8]) -> u32
     ensures value { result ≡ cone_result freq elev_deg answer.old }
     ensures answer_after { answer.new ≡ cone_answer freq elev_deg answer.old }

@@ -8,7 +8,7 @@ use parameters::{IoncapParams, Model};
 
 // `iongain` at the carried height, with the parameters in `IoncapParams`' order.
 #[unsafe(no_mangle)]
-#[tactic(auto, unfolding(crate::specs::Gain::gain_result, crate::specs::Gain::gain_answer, crate::specs::Answer::answered, ioncap::specs::Gain::gain_number, ioncap::specs::Gain::gain_value, ioncap::specs::Gain::efficiency_value, ioncap::specs::Gain::height_left, ioncap::specs::Gain::call_number, ioncap::specs::Gain::call_refusal, limits::specs::Refusals::first_refusal, limits::specs::Tests::length_refusal, parameters::proofs::Literals::round, parameters::proofs::Literals::of_bits))]
+#[tactic(auto, unfolding(crate::specs::Gain::gain_result, crate::specs::Gain::gain_answer, crate::specs::Answer::answered, ioncap::specs::Gain::gain_number, ioncap::specs::Gain::gain_value, ioncap::specs::Gain::efficiency_value, ioncap::specs::Gain::height_left, ioncap::specs::Gain::call_number, ioncap::specs::Gain::call_refusal, limits::specs::Refusals::first_refusal, limits::specs::Tests::length_refusal, single::proofs::Literals::round, single::proofs::Literals::of_bits))]
 pub extern "C" fn ioncap_gain(
     height: f32,
     kop: i32,
