@@ -45,9 +45,7 @@ fn filled(deck: Deck, fields: Fields, table: &mut [f32]) -> Result<f32, Refusal>
 {
     refusal_before_work(deck, fields, table)?;
     table::clear_refused(table);
-    let Some(cells) = table.as_mut_array::<TABLE_LENGTH>() else {
-        return Err(Refusal::Length);
-    };
+    let cells = table.as_mut_array::<TABLE_LENGTH>().unwrap();
     fill_card(fields, deck.height, cells)
 }
 
@@ -68,7 +66,7 @@ pub fn run_card(deck: Deck, fields: Fields, table: &mut [f32]) -> CardAnswer
         Err(refusal) => {
             table::clear_refused(table);
             CardAnswer {
-                deck: refused_deck(deck, refusal),
+                deck: refused_deck(deck, refusal.number()),
                 verdict: Err(refusal),
             }
         }
@@ -82,7 +80,7 @@ pub fn run_malformed(deck: Deck, table: &mut [f32]) -> CardAnswer
     let refusal = malformed_refusal(deck, table);
     table::clear_refused(table);
     CardAnswer {
-        deck: refused_deck(deck, refusal),
+        deck: refused_deck(deck, refusal.number()),
         verdict: Err(refusal),
     }
 }

@@ -52,17 +52,16 @@ pub fn deck_refusal(deck: Deck, table: &[f32]) -> Result<(), Refusal>
     Ok(())
 }
 
-// 10 raises no count, and a full deck's counts stay.
+// 10 raises no count, and a full deck's counts stay. By the number: a caller may hold any.
 #[tactic(auto, unfolding(crate::specs::DeckState::refused_within, independence::specs::Deck::refused_deck))]
-pub fn refused_deck(deck: Deck, refusal: Refusal) -> Deck
-    ensures { result ≡ deck_of (refused_within (state_of deck) (number_of refusal)) }
+pub fn refused_deck(deck: Deck, verdict: u32) -> Deck
+    ensures { result ≡ deck_of (refused_within (state_of deck) verdict) }
 {
-    if is_full(deck) || refusal == Refusal::Count {
+    if is_full(deck) || verdict == Refusal::Count.number() {
         return deck;
     }
     Deck {
-        height: deck.height,
-        accepted: deck.accepted,
         refused: deck.refused + 1,
+        ..deck
     }
 }

@@ -1,5 +1,5 @@
 use mathlib.Core.Path.{ap, ◌∙◌}
-use Rattle.deck.specs.Run.{state_of}
+use Rattle.deck.specs.Run.{refused_within, state_of}
 use Rattle.deck.proofs.Answers.{answered}
 use Rattle.deck.proofs.run.run_card.Goals as goal
 
@@ -10,6 +10,6 @@ pub returns-in-Err : goal.returns-in-Err
 returns-in-Err c =
     let done = c.in-Err.ensures in
     let table = c.clear_refused.ensures ∙ done.table in
-    let deck = ap state_of c.refused_deck.ensures ∙ done.deck in
+    let deck = ap state_of c.refused_deck.ensures ∙ ap (refused_within _) c.number.ensures ∙ done.deck in
     let both = answered _ _ _ _ (record { verdict = done.verdict; table = table; deck = deck }) in
     record { entry_done = both.0; value = both.1 }
