@@ -12,7 +12,8 @@ pub record Pieces (input line₀ : List ℕ) (table₀ : List Float) (out₀ lin
   pub lengths : SameLengths line₀ table₀ out₀ line table out
 
 -- what a step takes of a piece lies within the input
-pub within_input : (input : List ℕ) (from end used : ℕ) → (from ≤ end) × (end ≤ length input) → used ≤ length (take (end - from) (drop from input)) → from + used ≤ length input
+pub within_input : (input : List ℕ) (from end used : ℕ) → (from ≤ end) × (end ≤ length input)
+    → used ≤ length (take (end - from) (drop from input)) → from + used ≤ length input
 within_input input from end used p h =
     let a : from ≤ end = p.0 in
     let b : end ≤ length input = p.1 in
