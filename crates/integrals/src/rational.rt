@@ -8,6 +8,7 @@ pub struct Integrals {
     pub si: f32,
 }
 
+#[tactic(auto, unfolding(crate::specs::Rational::rational_of, single::proofs::Literals::round, single::proofs::Literals::of_bits))]
 pub(crate) fn rational(x: f32) -> Integrals
     ensures { result ≡ rational_of x }
 {

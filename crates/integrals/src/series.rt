@@ -38,6 +38,7 @@ fn sum_series(first: f32, start: f32, from: f32, sq: f32) -> Option<SeriesSum>
     }
 }
 
+#[tactic(auto, unfolding(crate::specs::Series::ci_series, single::proofs::Literals::round, single::proofs::Literals::of_bits), using(crate::proofs::Refusal::ci_answers))]
 pub(crate) fn ci_series(x: f32) -> Option<SeriesSum>
     ensures { IsAnswer unsettled_number series_value (num 0 1) 11 (ci_series x) (ci_settles x) result }
 {
@@ -45,6 +46,7 @@ pub(crate) fn ci_series(x: f32) -> Option<SeriesSum>
     sum_series(0.5772156649 + elementary::ln(x), -sq / 4.0, 4.0, sq)
 }
 
+#[tactic(auto, unfolding(crate::specs::Series::si_series, single::proofs::Literals::round, single::proofs::Literals::of_bits), using(crate::proofs::Refusal::si_answers))]
 pub(crate) fn si_series(x: f32) -> Option<SeriesSum>
     ensures { IsAnswer unsettled_number series_value (num 0 1) 11 (si_series x) (si_settles x) result }
 {

@@ -6,6 +6,7 @@ ghost use Rattle.inverted_cone.specs.InvertedCone.{cone_gain_number, cone_gain_v
 use crate::cone_table::{CONE, CONE_ELEVS, CONE_FREQS};
 use refusals::Refusal;
 
+#[tactic(auto, unfolding(crate::specs::InvertedCone::interp_of, single::proofs::Literals::round, single::proofs::Literals::of_bits))]
 fn interp(a: f32, b: f32, c: f32) -> f32
     ensures { result ≡ interp_of a b c }
 {
@@ -47,6 +48,7 @@ fn cone_value(freq: f32, elev_deg: f32) -> f32
 }
 
 // At freq MHz and an elevation of elev_deg degrees.
+#[tactic(auto, unfolding(crate::specs::InvertedCone::invcon_number, crate::specs::InvertedCone::invcon_of, crate::specs::InvertedCone::invcon_value, limits::specs::Refusals::first_refusal, single::proofs::Literals::round, single::proofs::Literals::of_bits))]
 pub fn invcon(freq: f32, elev_deg: f32) -> Result<f32, Refusal>
     ensures value { result ≡ invcon_of freq elev_deg }
     ensures number { cone_gain_number result ≡ invcon_number freq elev_deg }
