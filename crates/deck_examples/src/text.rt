@@ -12,14 +12,10 @@ pub(crate) fn print_number(rt: &impl Print, n: u64) -> io::Result<()> {
 
 // Right-justified in 3 columns.
 pub(crate) fn print_narrow(rt: &impl Print, n: u32) -> io::Result<()> {
-    let mut field = [0u8; 3];
-    output::i(n as i64, &mut field);
-    rt.write_all(&field)
+    rt.write_all(&output::integer_columns::<3>(n as i64))
 }
 
 // Hundredths of a dB in 7 columns.
 pub(crate) fn print_hundredths(rt: &impl Print, x: f32) -> io::Result<()> {
-    let mut field = [0u8; 7];
-    output::hundredths_field(x, &mut field);
-    rt.write_all(&field)
+    rt.write_all(&output::hundredths_columns::<7>(x))
 }
