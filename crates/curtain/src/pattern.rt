@@ -11,42 +11,45 @@ use crate::row::CurtainRow;
 use angles::{Azimuth, Elevation};
 use reflection::Ground;
 
-// What both polarizations have in common. card, row and azimuth come apart here and below: a struct of
-// them would be made anew at each cell.
-#[tactic(auto, unfolding(crate::specs::Pattern::fac6_of, single::proofs::Literals::round, single::proofs::Literals::of_bits))]
-fn fac6(card: CurtainCard, row: CurtainRow, azimuth: Azimuth, t: f32) -> f32
-    ensures { result ≡ fac6_of card row azimuth t }
-{
-    let sb = azimuth.sb;
-    let denom = 1.0 - sb * sb * t * t;
-    let sel = elementary::cos(row.facsb * t) - row.cfac;
-    let sz = elementary::sin(row.facdx * t);
-    let sx = bays_sum(card, row.fac3, t * sb);
-    sel * sx * sz / denom
-}
-
-#[tactic(auto, unfolding(crate::specs::Pattern::value_of))]
-fn value(
+// What the card, the MHz and the azimuth give: the same at each elevation.
+#[derive(Clone, Copy)]
+struct Beam {
     card: CurtainCard,
     row: CurtainRow,
     azimuth: Azimuth,
-    elevation: Elevation,
-    earth: Ground,
-) -> f32
-    ensures { result ≡ value_of card row azimuth elevation earth }
-{
-    let q = elevation.q;
-    let fac6 = fac6(card, row, azimuth, elevation.t);
-    let count = at_most_ten(card.m);
-    let waves = element_waves(count, q, row.h1, row.dz);
-    let EhEv { eh, ev } = fields(
-        fac6 * azimuth.cb,
-        fac6 * (azimuth.sb * q),
-        count,
-        waves,
-        earth,
-    );
-    root::sqrt(eh * eh + ev * ev)
+}
+
+impl Beam {
+    // What both polarizations have in common.
+    #[tactic(auto, unfolding(crate::specs::Pattern::fac6_of, single::proofs::Literals::round, single::proofs::Literals::of_bits))]
+    fn fac6(&self, t: f32) -> f32
+        ensures { result ≡ fac6_of self.now.card self.now.row self.now.azimuth t }
+    {
+        let sb = self.azimuth.sb;
+        let denom = 1.0 - sb * sb * t * t;
+        let sel = elementary::cos(self.row.facsb * t) - self.row.cfac;
+        let sz = elementary::sin(self.row.facdx * t);
+        let sx = bays_sum(self.card, self.row.fac3, t * sb);
+        sel * sx * sz / denom
+    }
+
+    #[tactic(auto, unfolding(crate::specs::Pattern::value_of))]
+    fn value(&self, elevation: Elevation, earth: Ground) -> f32
+        ensures { result ≡ value_of self.now.card self.now.row self.now.azimuth elevation earth }
+    {
+        let q = elevation.q;
+        let fac6 = self.fac6(elevation.t);
+        let count = at_most_ten(self.card.m);
+        let waves = element_waves(count, q, self.row.h1, self.row.dz);
+        let EhEv { eh, ev } = fields(
+            fac6 * self.azimuth.cb,
+            fac6 * (self.azimuth.sb * q),
+            count,
+            waves,
+            earth,
+        );
+        root::sqrt(eh * eh + ev * ev)
+    }
 }
 
 #[tactic(auto, unfolding(crate::specs::Pattern::gain_of, single::proofs::Literals::round, single::proofs::Literals::of_bits))]
@@ -59,7 +62,8 @@ pub fn curtain_gain(
 ) -> CurtainGain
     ensures { result ≡ gain_of card row azimuth elevation earth }
 {
-    let value = value(card, row, azimuth, elevation, earth);
+    let beam = Beam { card, row, azimuth };
+    let value = beam.value(elevation, earth);
     if value <= 0.00001 {
         return CurtainGain::Weak;
     }
