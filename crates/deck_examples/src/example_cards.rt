@@ -57,28 +57,28 @@ pub(crate) fn curtain(first: i32, last: i32, elements: f32) -> Fields {
 // The deck of the removals, counted from 1: entry 3 is refused by 1.
 pub(crate) const ENTRIES: usize = 10;
 
-const MALFORMED: usize = 7;
-
-// By the entry's place in the deck: an array of cards is no plainer.
-pub(crate) fn entry_card(k: usize) -> Fields {
-    match k {
+// By the entry's place in the deck: an array of cards is no plainer. Entry 7 is a malformed line.
+pub(crate) fn entry_card(k: usize) -> Option<Fields> {
+    let fields = match k {
         1 => rhombic(2, 4),
         2 => monopole(2, 3, -0.1),
         3 => card(11, 2, 4, [0.0; 7]),
         4 => curtain(5, 6, 4.0),
         5 => log_periodic(7, 8, 3.0),
         6 => card(3, 9, 10, [-0.5, 12.0, 0.0, 0.0, 0.0, 0.0, 0.0]),
+        7 => return None,
         8 => monopole(1, 1, 4.0),
         9 => card(10, 29, 30, [70.0, 115.0, 18.0, 3.0, 15.0, 0.0, 0.0]),
         _ => log_periodic(1, 30, -0.2),
-    }
+    };
+    Some(fields)
 }
 
-// Each entry brings the same table.
-pub(crate) fn run_entry(k: usize, deck: Deck, table: &mut [f32]) -> CardAnswer {
+// A card, or a malformed line. Each entry brings the same table.
+pub(crate) fn run_entry(card: Option<Fields>, deck: Deck, table: &mut [f32]) -> CardAnswer {
     table::fill(table, BEFORE);
-    if k == MALFORMED {
-        return deck::run_malformed(deck, table);
+    match card {
+        Some(fields) => deck::run_card(deck, fields, table),
+        None => deck::run_malformed(deck, table),
     }
-    deck::run_card(deck, entry_card(k), table)
 }

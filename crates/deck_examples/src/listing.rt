@@ -21,38 +21,22 @@ fn print_row(rt: &impl Print, row: usize, mhz: u32, table: &Table) -> io::Result
     print(rt, b"\n")
 }
 
+fn card(kop: i32, values: [f32; 7]) -> Fields {
+    card_at(kop, 2, 3, 0.0, Model::Compatible, values)
+}
+
 fn type_one() -> Fields {
-    card_at(
-        1,
-        2,
-        3,
-        0.0,
-        Model::Compatible,
-        [0.0, 100.0, 20.0, 0.0, 0.0, 0.0, 0.0],
-    )
+    card(1, [0.0, 100.0, 20.0, 0.0, 0.0, 0.0, 0.0])
 }
 
 fn type_two() -> Fields {
-    card_at(
-        2,
-        2,
-        3,
-        0.0,
-        Model::Compatible,
-        [-0.5, 0.0, 0.0, 0.0, 0.0, 0.0, 0.0],
-    )
+    card(2, [-0.5, 0.0, 0.0, 0.0, 0.0, 0.0, 0.0])
 }
 
 // A card of 2 to 3 MHz.
-fn print_card(
-    rt: &impl Print,
-    kop: u32,
-    fields: Fields,
-    deck: Deck,
-    table: &mut Table,
-) -> io::Result<Deck> {
+fn print_card(rt: &impl Print, fields: Fields, deck: Deck, table: &mut Table) -> io::Result<Deck> {
     let answer = deck::run_card(deck, fields, table);
-    print_narrow(rt, kop)?;
+    print_narrow(rt, fields.kop.unsigned_abs())?;
     print_narrow(rt, verdict_number(answer.verdict))?;
     print(rt, b"\n")?;
     print_row(rt, 1, 2, table)?;
@@ -60,16 +44,17 @@ fn print_card(
     Ok(answer.deck)
 }
 
-fn print_swapped(rt: &impl Print, table: &mut Table) -> io::Result<()> {
-    let left = print_card(rt, 1, type_one(), deck::fresh(), table)?;
-    print_card(rt, 2, type_two(), left, table)?;
+fn print_in_turn(rt: &impl Print, cards: [Fields; 2], table: &mut Table) -> io::Result<()> {
+    let mut deck = deck::fresh();
+    for fields in cards {
+        deck = print_card(rt, fields, deck, table)?;
+    }
     Ok(())
 }
 
 pub(crate) fn print_listings(rt: &impl Print, table: &mut Table) -> io::Result<()> {
     print(rt, b"Document 01's cards of types 2 and 1\n")?;
-    let left = print_card(rt, 2, type_two(), deck::fresh(), table)?;
-    print_card(rt, 1, type_one(), left, table)?;
+    print_in_turn(rt, [type_two(), type_one()], table)?;
     print(rt, b"Swapped\n")?;
-    print_swapped(rt, table)
+    print_in_turn(rt, [type_one(), type_two()], table)
 }

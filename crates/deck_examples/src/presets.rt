@@ -2,7 +2,7 @@
 // Decks that hold something already: the ends of the counts, the height, and the table's length.
 ghost use Rattle.std.specs.Prelude.{◌≤◌};
 
-use crate::example_cards::rhombic;
+use crate::example_cards::{rhombic, run_entry};
 use crate::tables::{BEFORE, count};
 use crate::text::{print, print_hundredths, print_number};
 use deck::{CardAnswer, Deck};
@@ -32,28 +32,18 @@ fn print_answer(rt: &impl Print, answer: CardAnswer, table: &[f32]) -> io::Resul
     print(rt, b"\n")
 }
 
-// A card of one row.
-fn print_card(rt: &impl Print, deck: Deck, table: &mut [f32]) -> io::Result<()> {
-    table::fill(table, BEFORE);
-    let answer = deck::run_card(deck, rhombic(5, 5), table);
-    print_answer(rt, answer, table)
-}
-
-fn print_malformed(rt: &impl Print, deck: Deck, table: &mut [f32]) -> io::Result<()> {
-    table::fill(table, BEFORE);
-    let answer = deck::run_malformed(deck, table);
-    print_answer(rt, answer, table)
-}
-
-// Both on the deck as it is given.
+// A card of one row and a malformed line, both on the deck as it is given.
 fn print_both(rt: &impl Print, deck: Deck, table: &mut [f32]) -> io::Result<()> {
     print(rt, b"  ")?;
     print_counts_of(rt, deck)?;
     print(rt, b", length ")?;
     print_number(rt, table.len() as u64)?;
     print(rt, b"\n")?;
-    print_card(rt, deck, table)?;
-    print_malformed(rt, deck, table)
+    for card in [Some(rhombic(5, 5)), None] {
+        let answer = run_entry(card, deck, table);
+        print_answer(rt, answer, table)?;
+    }
+    Ok(())
 }
 
 fn deck_of(height: f32, accepted: u32, refused: u32) -> Deck {

@@ -2,7 +2,7 @@
 // A deck run with and without one of its entries.
 ghost use Rattle.std.specs.Prelude.{◌≤◌, IfOk};
 
-use crate::example_cards::{ENTRIES, run_entry};
+use crate::example_cards::{ENTRIES, entry_card, run_entry};
 use crate::tables::one_if;
 use crate::text::{print, print_hundredths, print_number};
 use deck::Deck;
@@ -70,7 +70,8 @@ fn run_on_both(
 ) -> io::Result<Decks>
     ensures { IfOk result (λ d. (d.verdicts ≤ 1) × (d.numbers ≤ 2760)) }
 {
-    let one = run_entry(k, with, a);
+    let card = entry_card(k);
+    let one = run_entry(card, with, a);
     if k == removed {
         return Ok(Decks {
             with: one.deck,
@@ -79,7 +80,7 @@ fn run_on_both(
             numbers: 0,
         });
     }
-    let other = run_entry(k, without, b);
+    let other = run_entry(card, without, b);
     Ok(Decks {
         with: one.deck,
         without: other.deck,
@@ -107,7 +108,7 @@ fn compare_without(
     let mut without = deck::fresh();
     let mut verdicts: u64 = 0;
     let mut numbers: u64 = 0;
-    for k in 1..ENTRIES + 1 {
+    for k in 1..=ENTRIES {
         let decks = run_on_both(rt, k, removed, with, without, a, b)?;
         with = decks.with;
         without = decks.without;
@@ -122,7 +123,7 @@ pub(crate) fn print_removals(rt: &impl Print, a: &mut Table, b: &mut Table) -> i
         rt,
         b"A deck of ten entries, with and without one of them, in hundredths of a dB\n",
     )?;
-    for removed in 1..ENTRIES + 1 {
+    for removed in 1..=ENTRIES {
         print(rt, b"without entry ")?;
         print_number(rt, removed as u64)?;
         print(rt, b"\n")?;
