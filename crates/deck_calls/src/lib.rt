@@ -11,6 +11,7 @@ use refusals::verdict_number;
 const SLOTS: usize = 20;
 
 // The verdict, on a deck with this height and no cards yet. Without 20 slots it is 9 or 7.
+#[tactic(auto, unfolding(crate::specs::Calls::fill_number, crate::specs::Calls::filled))]
 #[unsafe(no_mangle)]
 pub extern "C" fn deck_fill(
     kop: i32,

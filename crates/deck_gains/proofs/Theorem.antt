@@ -109,9 +109,11 @@ module _ (f : Fields) (h : Float) (p : Passes the_antenna f h) (fin : T (finite 
 
   accepted_above : (m d : ℕ) → the_antenna.first f ≤ m → m ≤ the_antenna.last f → d < 90 → (height : Float) → (the_antenna.call f m (suc d) height).refusal ≡ 0
   accepted_above m d lo hi k height =
-      ap (λ (a : Answer). a.refusal) (sym (call_above m d lo hi k height)) ∙ (filled_cell the_antenna the_laws count_limit f h m (suc d) p lo hi (omega arith)).1
+      ap (λ (a : Answer). a.refusal) (sym (call_above m d lo hi k height))
+      ∙ (filled_cell the_antenna the_laws count_limit f h m (suc d) p lo hi (omega arith)).1
 
-  ground_cell_lem : (m : ℕ) → the_antenna.first f ≤ m → m ≤ the_antenna.last f → IsGainOf (cell_call f m 0) (carried_at_row the_antenna f h m) (cell (card_table the_antenna f h) (gain_at m 0))
+  ground_cell_lem : (m : ℕ) → the_antenna.first f ≤ m → m ≤ the_antenna.last f
+      → IsGainOf (cell_call f m 0) (carried_at_row the_antenna f h m) (cell (card_table the_antenna f h) (gain_at m 0))
   unfolding height_at
   ground_cell_lem m lo hi =
       let g = filled_cell the_antenna the_laws count_limit f h m 0 p lo hi (omega arith) in
@@ -160,5 +162,6 @@ tables_of_calls entries j f a =
     subst (λ (t : List Float). TableOfCalls f h t) (sym x.table) (table_of_calls f h x.passes x.finite_height)
 
 -- and so of the outcomes of any calls in turn that meet the contract of `run_card` and `run_malformed`
-pub tables_of_calls_done : (entries : List (Entry the_antenna)) (outcomes : List Outcome) → CallsDone the_antenna count_limit fresh entries outcomes → TablesOfCalls entries outcomes
+pub tables_of_calls_done : (entries : List (Entry the_antenna)) (outcomes : List Outcome) → CallsDone the_antenna count_limit fresh entries outcomes
+    → TablesOfCalls entries outcomes
 tables_of_calls_done entries outcomes done = rw (calls_run the_antenna the_laws count_limit fresh entries outcomes done) (tables_of_calls entries)

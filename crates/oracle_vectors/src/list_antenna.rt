@@ -75,29 +75,33 @@ fn lookup(line: &Line, table: &[f32]) -> Result<GainEfficiency, Refusal> {
     )
 }
 
-fn is_outcome(line: &Line, refusal: u32, gain: f32, efficiency: f32) -> bool {
+fn is_answer(line: &Line, refusal: u32, gain: f32, efficiency: f32) -> bool {
     (word(line, 7) == refusal) & is(line, 8, gain) & is(line, 9, efficiency)
+}
+
+fn is_outcome(line: &Line, found: Result<GainEfficiency, Refusal>) -> bool {
+    match found {
+        Ok(v) => is_answer(line, 0, v.gain, v.efficiency),
+        Err(refusal) => is_answer(line, refusal.number(), 0.0, 0.0),
+    }
 }
 
 fn is_lookup(line: &Line) -> bool {
     let table = seeded_table(word(line, 0));
-    match lookup(line, &table[..table_length(line)]) {
-        Ok(v) => is_outcome(line, 0, v.gain, v.efficiency),
-        Err(refusal) => is_outcome(line, refusal.number(), 0.0, 0.0),
-    }
+    is_outcome(line, lookup(line, &table[..table_length(line)]))
 }
 
-fn is_cone(line: &Line) -> bool {
-    match inverted_cone::invcon(float(line, 5), float(line, 6)) {
-        Ok(gain) => is_outcome(line, 0, gain, 0.0),
-        Err(refusal) => is_outcome(line, refusal.number(), 0.0, 0.0),
-    }
+// The cone has no efficiency.
+fn cone(line: &Line) -> Result<GainEfficiency, Refusal> {
+    let gain = inverted_cone::invcon(float(line, 5), float(line, 6))?;
+    let efficiency = 0.0;
+    Ok(GainEfficiency { gain, efficiency })
 }
 
 pub(crate) fn is_equal(line: &Line) -> bool {
     match line[0] {
         b'l' | b'c' => is_lookup(line),
-        b'i' => is_cone(line),
+        b'i' => is_outcome(line, cone(line)),
         _ => false,
     }
 }
