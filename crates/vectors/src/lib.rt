@@ -22,6 +22,7 @@ pub fn digit(b: u8) -> u32
 }
 
 // A field of hexadecimal digits, modulo 2 ^ 32.
+#[tactic(auto, unfolding(crate::specs::Line::hex_of, crate::specs::Line::hex_to))]
 pub fn hex(field: &[u8]) -> u32
     ensures { result ≡ hex_of field.now }
 {

@@ -18,6 +18,7 @@ fn one_more(count: u64) -> u64
     if count < MOST_LINES { count + 1 } else { count }
 }
 
+#[tactic(auto, unfolding(crate::specs::Counting::counted_of))]
 pub fn counted(tally: Tally, equal: bool) -> Tally
     ensures { result ≡ counted_of tally equal }
 {
