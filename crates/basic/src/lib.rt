@@ -34,12 +34,14 @@ pub fn cut(x: f32) -> i32
     std::num::saturating_f32_to_i32(x)
 }
 
+#[tactic(auto, unfolding(crate::specs::Basic::square))]
 pub fn powi2(y: f32) -> f32
     ensures { result ≡ square y }
 {
     y * y
 }
 
+#[tactic(auto, unfolding(crate::specs::Basic::fourth, crate::specs::Basic::square))]
 pub fn powi4(y: f32) -> f32
     ensures { result ≡ fourth y }
 {

@@ -24,6 +24,7 @@ fn read_decimals(s: &[u8]) -> Option<[f32; 10]>
 }
 
 // The values are the off-azimuth and slots 3, 4, 6 to 12.
+#[tactic(auto, unfolding(crate::specs::Line::fields_of, single::proofs::Literals::round, single::proofs::Literals::of_bits))]
 fn card_fields(kop: i32, first: i32, last: i32, values: [f32; 10]) -> Fields
     ensures { result ≡ fields_of kop first last (λ k. get_or values k nan) }
 {

@@ -17,6 +17,7 @@ pub struct Dipole {
     pub hwave2: f32,
 }
 
+#[tactic(auto, unfolding(crate::specs::Row::cotangent, single::proofs::Literals::round, single::proofs::Literals::of_bits))]
 fn cot(x: f32) -> f32
     ensures { result ≡ cotangent x }
 {

@@ -25,6 +25,7 @@ pub struct InvertedL {
 }
 
 // Minus infinity at height 0.
+#[tactic(auto, unfolding(crate::specs::InvertedL::eff8_of, single::proofs::Literals::round, single::proofs::Literals::of_bits))]
 fn eff8_of(hwave: f32) -> f32
     ensures { result ≡ eff8_of hwave }
 {
@@ -72,6 +73,7 @@ fn g2(row: InvertedL, azimuth: Azimuth, elevation: Elevation, earth: Ground) -> 
     hk * elementary::powi2(2.0 * c * azimuth.cb / sphip)
 }
 
+#[tactic(auto, unfolding(crate::specs::InvertedL::bprim_of, single::proofs::Literals::round, single::proofs::Literals::of_bits))]
 fn bprim_of(a: f32, b: f32) -> f32
     ensures { result ≡ bprim_of a b }
 {

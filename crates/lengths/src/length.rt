@@ -10,7 +10,8 @@ pub enum Length {
     Wavelengths(f32),
 }
 
-// A leg's phase `fac`, 3.1416 to the wavelength, and its wavelengths `el1`.
+// A leg's phase `fac`, 3.1416 to the wavelength, and its wavelengths `el1`. No PhaseInWaves: the
+// formulas have these names, and no other.
 #[derive(Clone, Copy)]
 pub struct LegInWaves {
     pub fac: f32,
@@ -31,6 +32,7 @@ pub const HEIGHT_TURN: f32 = 6.2832;
 pub const MONOPOLE_TURN: f32 = 6.283185;
 
 // A negative number is in wavelengths, of the opposite sign; any other is in metres.
+#[tactic(auto, unfolding(crate::specs::Length::length_of, single::proofs::Literals::round, single::proofs::Literals::of_bits))]
 pub fn read_length(v: f32) -> Length
     ensures { result ≡ length_of v }
 {
@@ -50,6 +52,8 @@ pub fn read_height(kind: Kind, anh: f32) -> Length
     }
 }
 
+// Not phase_in_waves: metres are taken with their sign.
+#[tactic(auto, unfolding(crate::specs::Length::leg_of, single::proofs::Literals::round, single::proofs::Literals::of_bits))]
 pub fn leg_in_waves(length: Length, wave: f32) -> LegInWaves
     ensures { result ≡ leg_of length wave }
 {
@@ -66,6 +70,7 @@ pub fn leg_in_waves(length: Length, wave: f32) -> LegInWaves
 }
 
 // Metres not above 0 count as wavelengths, without their sign.
+#[tactic(auto, unfolding(crate::specs::Length::phase_of, single::proofs::Literals::round, single::proofs::Literals::of_bits))]
 pub fn phase_in_waves(turn: f32, length: Length, wave: f32) -> PhaseInWaves
     ensures { result ≡ phase_of turn length wave }
 {

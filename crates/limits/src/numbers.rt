@@ -13,6 +13,7 @@ pub fn is_finite(x: f32) -> bool
 }
 
 // NaN is not within.
+#[tactic(auto, unfolding(crate::specs::Tests::outside, single::proofs::Literals::round, single::proofs::Literals::of_bits))]
 fn is_outside(x: f32) -> bool
     ensures { result ≡ outside x }
 {

@@ -10,6 +10,7 @@ use refusals::Refusal;
 const MOST_BAYS: f32 = 64.0;
 
 // By the number, as document 01 says it.
+#[tactic(auto, unfolding(crate::specs::Tests::is_ioncap_type), using(crate::proofs::Within::within_is))]
 fn is_ioncap_type(kop: i32) -> bool
     ensures { result ≡ is_ioncap_type kop }
 {

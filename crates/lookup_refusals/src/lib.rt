@@ -8,6 +8,7 @@ use refusals::Refusal;
 
 // 7, then 2 of the MHz and the elevation looked up. The length is judged by the caller, who has the
 // table as numbers or as bytes.
+#[tactic(auto, unfolding(crate::specs::LookupRefusals::refusal_by_length, limits::specs::Refusals::first_refusal), using(refusals::proofs::Refusals::is_judged))]
 pub fn refusal_by_length(is_table: bool, fmc: f32, delta: f32) -> Result<(), Refusal>
     ensures { IsJudged (refusal_by_length is_table fmc delta) result }
 {

@@ -49,6 +49,7 @@ fn refraction_of(soil: Soil, e: Elevation) -> Refraction
     Refraction { rho, rho12, alpha }
 }
 
+#[tactic(auto, unfolding(crate::specs::Ground::psiv_of, single::proofs::Literals::round, single::proofs::Literals::of_bits))]
 fn psiv(a: f32, b: f32) -> f32
     ensures { result ≡ psiv_of a b }
 {
@@ -83,6 +84,7 @@ fn vertical(soil: Soil, e: Elevation, w: Refraction) -> Coefficient
     Coefficient { magnitude, phase }
 }
 
+#[tactic(auto, unfolding(crate::specs::Ground::psih_of, crate::specs::Ground::ch_of, crate::specs::Ground::horizontal_of, single::proofs::Literals::round, single::proofs::Literals::of_bits))]
 fn horizontal(e: Elevation, w: Refraction) -> Coefficient
     ensures { result ≡ horizontal_of e w }
 {
@@ -96,6 +98,7 @@ fn horizontal(e: Elevation, w: Refraction) -> Coefficient
 }
 
 // cv, or ch where they differ by 0.001 or less.
+#[tactic(auto, unfolding(crate::specs::Ground::without_small_difference, single::proofs::Literals::round, single::proofs::Literals::of_bits))]
 fn without_small_difference(cv: f32, ch: f32) -> f32
     ensures { result ≡ without_small_difference cv ch }
 {

@@ -3,6 +3,7 @@ ghost use Rattle.std.specs.Prelude.{◌≡◌};
 ghost use Rattle.reflection.specs.Ground.{image_power, with_image};
 
 // The power of both: the ground gives the image c of the wave's amplitude, and this phase.
+#[tactic(auto, unfolding(single::proofs::Literals::round, single::proofs::Literals::of_bits))]
 pub fn image_power(c: f32, phase: f32) -> f32
     ensures { result ≡ image_power c phase }
 {

@@ -11,6 +11,7 @@ pub struct Soil {
     pub asxv: f32,
 }
 
+#[tactic(auto, unfolding(crate::specs::Soil::x_of, crate::specs::Soil::u_of, crate::specs::Soil::v_of, crate::specs::Soil::asxv_of, crate::specs::Soil::soil_of, single::proofs::Literals::round, single::proofs::Literals::of_bits))]
 pub fn soil_of(sigma: f32, er: f32, fmc: f32) -> Soil
     ensures { result ≡ soil_of sigma er fmc }
 {

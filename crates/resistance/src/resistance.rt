@@ -9,6 +9,7 @@ ghost use Rattle.resistance.specs.Resistance.{cin_of, resistance_from, resistanc
 use integrals::{Integrals, Settled};
 
 // The dipoles' has another constant, and neither crate needs the other: one function is no plainer.
+#[tactic(auto, unfolding(crate::specs::Resistance::cin_of, single::proofs::Literals::round, single::proofs::Literals::of_bits))]
 fn cin_of(v: f32, ci: f32) -> f32
     ensures { result ≡ cin_of v ci }
 {

@@ -28,6 +28,7 @@ pub struct Monopole {
 }
 
 // Below 0.2 wavelengths the resistance goes with the leg's square.
+#[tactic(auto, unfolding(crate::specs::Monopole::short_resistance, single::proofs::Literals::round, single::proofs::Literals::of_bits))]
 fn short_resistance(el1: f32, ra: f32) -> f32
     ensures { result ≡ short_resistance el1 ra }
 {
@@ -56,6 +57,7 @@ pub fn monopole_row(leg: Length, wave: f32) -> Option<Settled<Monopole>>
     }))
 }
 
+#[tactic(auto, unfolding(crate::specs::Monopole::not_zero, single::proofs::Literals::round, single::proofs::Literals::of_bits))]
 fn not_zero(v: f32) -> f32
     ensures { result ≡ not_zero v }
 {
