@@ -11,6 +11,7 @@ use crate::tables::Table;
 use lookup_refusals::{card_refusal, refusal_by_length};
 use refusals::Refusal;
 
+// fmc and delta go as the caller hands them in: a struct of both would be taken apart at once.
 fn lookup<T: Table>(table: T, fmc: f32, delta: f32) -> Result<GainEfficiency, Refusal>
     ensures { result ≡ gain_lookup_of (T.numbers table) fmc delta }
 {

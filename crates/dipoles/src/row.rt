@@ -24,7 +24,7 @@ fn cot(x: f32) -> f32
     1.0 / elementary::tan(x)
 }
 
-// `xr`, from the integrals at `fac * 4` and at `fac * 2`.
+// `xr`, from the integrals at `fac * 4` and at `fac * 2`. Another constant than resistance's `cin_of`.
 fn xr_of(fac: f32, at2kl: Integrals, atkl: Integrals) -> f32
     ensures { result ≡ xr_of fac at2kl atkl }
 {

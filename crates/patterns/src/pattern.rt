@@ -110,7 +110,7 @@ pub fn pattern_of(antenna: Antenna, wave: f32) -> Option<Settled<Pattern>>
 }
 
 // `rain` before it is taken to dB. The curtain's is in dB from the start: the crate
-// `cells` takes it from `curtain`.
+// `cells` takes it from `curtain`. An elevation and the ground are made apart, so no struct holds both.
 #[tactic(auto, unfolding(crate::specs::Pattern::power_of, single::proofs::Literals::round, single::proofs::Literals::of_bits, single::proofs::Literals::neg))]
 pub fn power_of(pattern: Pattern, azimuth: Azimuth, elevation: Elevation, earth: Ground) -> f32
     ensures { result ≡ power_of pattern azimuth elevation earth }

@@ -27,7 +27,7 @@ pub struct ReflectedPhase {
     pub vertical: SineCosine,
 }
 
-// A field strength as a complex number.
+// A field strength as a complex number. curtain's Sums takes the root of its square, no rain here does.
 #[derive(Clone, Copy)]
 pub struct Field {
     pub re: f32,
