@@ -6,7 +6,7 @@ ghost use Rattle.deck.specs.Columns.{ColumnsAre};
 use column_sines::column_sines;
 use table::COLUMNS;
 
-// In radians, with their cosines and sines.
+// In radians, with their cosines and sines. Apart: the sines are column_sines' table as it stands.
 #[derive(Clone, Copy)]
 pub(crate) struct Columns {
     pub deltas: [f32; COLUMNS],

@@ -2,7 +2,6 @@
 // The curtain's elements per bay. Above ten they count as ten in the pattern, and straight up, on the
 // floor, as they are.
 use crate::example_cards::curtain;
-use crate::tables::one_if;
 use crate::text::{print, print_number};
 use refusals::{Refusal, verdict_number};
 use std::io;
@@ -25,7 +24,7 @@ fn count_differences(a: &Table, b: &Table) -> Differences {
     for k in 0..TABLE_LENGTH {
         if !vectors::same(a[k], b[k]) {
             all += 1;
-            up += one_if(is_up(k));
+            up += u64::from(is_up(k));
         }
     }
     Differences { all, up }

@@ -46,54 +46,50 @@ fn print_both(rt: &impl Print, deck: Deck, table: &mut [f32]) -> io::Result<()> 
     Ok(())
 }
 
-fn deck_of(height: f32, accepted: u32, refused: u32) -> Deck {
-    Deck {
+// A deck that holds something, and how much of a table it is run with.
+#[derive(Clone, Copy)]
+struct Preset {
+    deck: Deck,
+    length: usize,
+    ghost within: { length ≤ 2761 },
+}
+
+fn preset_of(height: f32, accepted: u32, refused: u32, length: usize) -> Preset
+    requires { length ≤ 2761 }
+{
+    let deck = Deck {
         height,
         accepted,
         refused,
-    }
+    };
+    Preset { deck, length }
 }
 
-const PRESETS: usize = 17;
-
-// By the place in the list that is printed: an array of decks is no plainer.
-fn preset_deck(k: usize) -> Deck {
-    match k {
-        0 => deck_of(0.5, 999_999, 0),
-        1 => deck_of(0.5, 499_999, 500_000),
-        2 => deck_of(0.5, 1_000_000, 0),
-        3 => deck_of(0.5, 500_000, 500_000),
-        4 => deck_of(0.5, 0, 1_000_001),
-        5 => deck_of(0.5, u32::MAX, u32::MAX),
-        6 => deck_of(0.5, u32::MAX, 1),
-        7 => deck_of(f32::NAN, 3, 4),
-        8 => deck_of(f32::INFINITY, 3, 4),
-        9 => deck_of(f32::NEG_INFINITY, 3, 4),
-        10 => deck_of(-1000.5, 3, 4),
-        11 => deck_of(f32::NAN, 1_000_000, 4),
-        15 => deck_of(f32::NAN, 3, 4),
-        16 => deck_of(0.5, 1_000_000, 4),
-        _ => deck_of(0.5, 3, 4),
-    }
+fn presets() -> [Preset; 17] {
+    [
+        preset_of(0.5, 999_999, 0, TABLE_LENGTH),
+        preset_of(0.5, 499_999, 500_000, TABLE_LENGTH),
+        preset_of(0.5, 1_000_000, 0, TABLE_LENGTH),
+        preset_of(0.5, 500_000, 500_000, TABLE_LENGTH),
+        preset_of(0.5, 0, 1_000_001, TABLE_LENGTH),
+        preset_of(0.5, u32::MAX, u32::MAX, TABLE_LENGTH),
+        preset_of(0.5, u32::MAX, 1, TABLE_LENGTH),
+        preset_of(f32::NAN, 3, 4, TABLE_LENGTH),
+        preset_of(f32::INFINITY, 3, 4, TABLE_LENGTH),
+        preset_of(f32::NEG_INFINITY, 3, 4, TABLE_LENGTH),
+        preset_of(-1000.5, 3, 4, TABLE_LENGTH),
+        preset_of(f32::NAN, 1_000_000, 4, TABLE_LENGTH),
+        preset_of(0.5, 3, 4, 0),
+        preset_of(0.5, 3, 4, TABLE_LENGTH - 1),
+        preset_of(0.5, 3, 4, TABLE_LENGTH + 1),
+        preset_of(f32::NAN, 3, 4, TABLE_LENGTH + 1),
+        preset_of(0.5, 1_000_000, 4, TABLE_LENGTH + 1),
+    ]
 }
 
-fn preset_length(k: usize) -> usize
-    ensures { result ≤ 2761 }
-{
-    if k < 12 {
-        return TABLE_LENGTH;
-    }
-    match k {
-        12 => 0,
-        13 => TABLE_LENGTH - 1,
-        _ => TABLE_LENGTH + 1,
-    }
-}
-
-fn print_preset(rt: &impl Print, k: usize) -> io::Result<()> {
+fn print_preset(rt: &impl Print, preset: Preset) -> io::Result<()> {
     let mut table = [0.0f32; TABLE_LENGTH + 1];
-    let n = preset_length(k);
-    print_both(rt, preset_deck(k), &mut table[..n])
+    print_both(rt, preset.deck, &mut table[..preset.length])
 }
 
 pub(crate) fn print_presets(rt: &impl Print) -> io::Result<()> {
@@ -101,8 +97,8 @@ pub(crate) fn print_presets(rt: &impl Print) -> io::Result<()> {
         rt,
         b"Decks that hold something: a card of one row, and a malformed entry\n",
     )?;
-    for k in 0..PRESETS {
-        print_preset(rt, k)?;
+    for preset in presets() {
+        print_preset(rt, preset)?;
     }
     Ok(())
 }

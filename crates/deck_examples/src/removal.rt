@@ -3,7 +3,6 @@
 ghost use Rattle.std.specs.Prelude.{◌≤◌, IfOk};
 
 use crate::example_cards::{ENTRIES, entry_card, run_entry};
-use crate::tables::one_if;
 use crate::text::{print, print_hundredths, print_number};
 use deck::Deck;
 use std::io;
@@ -84,7 +83,7 @@ fn run_on_both(
     Ok(Decks {
         with: one.deck,
         without: other.deck,
-        verdicts: one_if(one.verdict != other.verdict),
+        verdicts: u64::from(one.verdict != other.verdict),
         numbers: print_differences(rt, k, a, b)?,
     })
 }

@@ -21,6 +21,7 @@ fn fold_block(function: u32, block: u32, start: u64) -> u64
     h
 }
 
+// Blocks go by their first and end through the three below: a struct would be taken apart in each.
 fn fold(function: u32, first: u32, end: u32) -> u64
     requires { end ≤ 65536 }
 {

@@ -1,5 +1,6 @@
 // The fields of a line. Every list's lines are read into an array of the same length, so a field
-// needs no test of the line's length.
+// needs no test of the line's length. A place's bound stands at each reader: a type for it would be made
+// and taken apart at each call.
 ghost use Rattle.std.specs.Prelude.{◌+◌, ◌≤◌};
 
 use parameters::{Fixes, Model};
