@@ -56,7 +56,8 @@ pub(crate) struct Reading<T: Table> {
 }
 
 impl<T: Table> Reading<T> {
-    // The row at m MHz, at the place's columns.
+    // The row at m MHz, at the place's columns. m is asked to be a row's number, as in deck and listing: a
+    // type for it would be made and taken apart at each row.
     #[tactic(auto, unfolding(crate::specs::Rows::row_of))]
     pub(crate) fn row(&self, m: usize) -> Row
         requires { (1 ≤ m) × (m ≤ row_count) }

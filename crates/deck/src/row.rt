@@ -25,6 +25,7 @@ fn ground_cell(kind: Kind, zenith: f32, e: Elevation, height: f32) -> f32
     low.gain
 }
 
+// m is asked to be a row's number: a type for it would be made and taken apart at each row.
 fn fill_above(
     row: Row,
     zenith: f32,

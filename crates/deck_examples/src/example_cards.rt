@@ -57,7 +57,7 @@ pub(crate) fn curtain(first: i32, last: i32, elements: f32) -> Fields {
 // The deck of the removals, counted from 1: entry 3 is refused by 1.
 pub(crate) const ENTRIES: usize = 10;
 
-// By the entry's place in the deck: an array of cards is no plainer. Entry 7 is a malformed line.
+// By the entry's place in the deck: an array would be built anew at each. Entry 7 is a malformed line.
 pub(crate) fn entry_card(k: usize) -> Option<Fields> {
     let fields = match k {
         1 => rhombic(2, 4),

@@ -7,7 +7,7 @@ use refusals::{Refusal, verdict_number};
 use std::io;
 use table::{COLUMNS, GAINS, TABLE_LENGTH, Table};
 
-// What a card's lookup takes beside the table.
+// What a card's lookup takes beside the table, the verdict as the number that it takes.
 #[derive(Clone, Copy)]
 struct CardRange {
     first: i32,
@@ -29,6 +29,7 @@ fn print_answer(rt: &impl Print, number: u32, gain: f32, efficiency: f32) -> io:
     print_hundredths(rt, efficiency)
 }
 
+// The number and the values by one match: `verdict_number` would look at the answer once more.
 fn print_found(rt: &impl Print, found: Result<GainEfficiency, Refusal>) -> io::Result<()> {
     match found {
         Ok(v) => print_answer(rt, 0, v.gain, v.efficiency),

@@ -6,6 +6,7 @@ use crate::row::Dipole;
 use angles::{Azimuth, Elevation};
 use reflection::{Ground, with_image};
 
+#[tactic(auto, unfolding(crate::specs::Pattern::dipole_rain, single::proofs::Literals::round, single::proofs::Literals::of_bits))]
 pub fn dipole_rain(dipole: Dipole, azimuth: Azimuth, elevation: Elevation, earth: Ground) -> f32
     ensures { result ≡ dipole_rain dipole azimuth elevation earth }
 {

@@ -82,7 +82,7 @@ pub fn call(function: u32, x: f32) -> u32
 }
 
 // Through C, for the benchmark: the answers of all of xs into out. 7 and nothing written where
-// their lengths differ, else 0.
+// their lengths differ, else 0: by its number, as this crate has no refusal but this.
 #[unsafe(no_mangle)]
 pub extern "C" fn elementary_map(function: u32, xs: &[f32], out: &mut [u32]) -> u32
     ensures value { result ≡ map_number xs.now out.old }

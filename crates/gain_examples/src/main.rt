@@ -23,6 +23,7 @@ fn print_text(rt: &impl Print, text: &[u8]) -> io::Result<()> {
     rt.write_all(b"\n")
 }
 
+// The number and the values by one match: `verdict_number` would look at the answer once more.
 fn show(rt: &impl Print, call: GainCall, text: &[u8]) -> io::Result<()> {
     let answer = ioncap::gain_of(call, 0.0);
     let (number, gain, efficiency) = match answer {

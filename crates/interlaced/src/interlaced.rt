@@ -92,6 +92,7 @@ pub fn interlaced_rain(legs: Legs, offset: Offset, e: Elevation, earth: Ground) 
     let z = y - 2.0 * offset.htwave * q;
     let of_y = elementary::sin_cos(y);
     let of_z = elementary::sin_cos(z);
+    // sloping_patterns' reflected_of is the same of a Slope, and neither crate needs the other.
     let of_yh = elementary::sin_cos(psih - 2.0 * hwave * q);
     let of_yv = elementary::sin_cos(psiv - 2.0 * hwave * q);
     let hk = hk_of(ch, of_yh, of_y, of_z);

@@ -21,7 +21,8 @@ fn weight(a: f32, b: f32, c: f32) -> f32
 }
 
 // The first bound from the second on that is not below x; the last where all are. Each bound is tried:
-// at random `position` took half as long again and a `partition_point` twice as long, timed in Rust.
+// at random `position` took half as long again and a `partition_point` twice as long (timed in Rust), and
+// the cone would be slower than before.
 fn upper(x: f32, bounds: &[f32]) -> usize
     requires { 1 < length bounds.now }
     ensures { (result ≡ upper_of x bounds.now) × (1 ≤ result) × (result < length bounds.now) }

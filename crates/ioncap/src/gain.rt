@@ -10,7 +10,8 @@ use gain_core::work;
 use parameters::{IoncapParams, Kind, Model};
 use refusals::Refusal;
 
-// Elevation in radians, off-azimuth in degrees.
+// Elevation in radians, off-azimuth in degrees. The type is a number as it was handed in: refusal 1 judges
+// it, so it may be no type's.
 #[derive(Clone, Copy)]
 pub struct GainCall {
     pub kop: i32,

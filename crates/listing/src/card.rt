@@ -20,7 +20,7 @@ use table::Table;
 // From here on a place prints as stars.
 const MOST_LISTED: u32 = 10_000_000;
 
-// vectors counts the same way in u64: no crate below both to share one comparison.
+// vectors counts the same way in u64, and no crate with code is below both: one comparison is not moved.
 #[tactic(auto, unfolding(crate::specs::Session::counted))]
 fn count(listed: u32) -> u32
     ensures { result ≡ counted listed }

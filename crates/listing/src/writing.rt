@@ -54,6 +54,7 @@ impl Writer<'_> {
         self.line_feed();
     }
 
+    // m is asked to be a row's number: a type for it would be made and taken apart at each row.
     #[tactic(auto, using(output::proofs::Field::field_length, output::proofs::Printed::hundredths_field_length))]
     fn row(&mut self, table: &Table, m: usize)
         requires { (1 ≤ m) × (m ≤ row_count) × HasRoom self.old 18 }

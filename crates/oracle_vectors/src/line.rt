@@ -67,6 +67,7 @@ pub(crate) fn slots(line: &Line, first: usize) -> [f32; 20]
     slots
 }
 
+// By the number that a list has: the fixes that it stands for are its own.
 pub(crate) fn model(number: u32) -> Model {
     match number {
         0 => Model::Compatible,

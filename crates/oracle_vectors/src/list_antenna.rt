@@ -75,6 +75,7 @@ fn lookup(line: &Line, table: &[f32]) -> Result<GainEfficiency, Refusal> {
     )
 }
 
+// The refusal as the number that the list has.
 fn is_answer(line: &Line, refusal: u32, gain: f32, efficiency: f32) -> bool {
     (word(line, 7) == refusal) & is(line, 8, gain) & is(line, 9, efficiency)
 }

@@ -32,6 +32,7 @@ fn call(line: &Line) -> GainCall {
     }
 }
 
+// The refusal as the number that the list has.
 fn is_outcome(line: &Line, refusal: u32, gain: f32, efficiency: f32) -> bool {
     (pair(line, 128) == refusal) & is_at(line, 131, gain) & is_at(line, 140, efficiency)
 }

@@ -5,7 +5,8 @@ ghost use Rattle.rhombics.specs.Legs.{legs_of, elfac_of};
 use angles::{Azimuth, Elevation};
 use elementary::SineCosine;
 
-// `sisum` and `sidif` are sines without a cosine, so that a struct for each angle is no plainer.
+// Two angles have both, `sisum` and `sidif` a sine alone: the Rust's names, so a struct for each angle is no
+// plainer.
 #[derive(Clone, Copy)]
 pub struct Legs {
     pub sb: f32,

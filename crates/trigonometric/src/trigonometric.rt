@@ -45,8 +45,8 @@ fn turns_argument(x: f32) -> f32
     if x < 0.0 { t - 0.5 } else { t + 0.5 }
 }
 
-// The whole part of |t|, by its digits and its exponent's field: with a cast to i64 the sine takes a
-// third longer, along a row half as long again.
+// The whole part of |t|, by its digits and its exponent's field: with a cast to i64 the sine takes 1.16 of
+// the Rust's time, and 0.91 so; along a row 1.74 and 1.16.
 fn whole_part(t: f32) -> u32
     requires { Mag (2 ^ 21) t }
     ensures { (result ≡ whole_part t) × (result ≤ 2 ^ 21) }
@@ -60,7 +60,8 @@ fn whole_part(t: f32) -> u32
     }
 }
 
-// n as an f32, from its magnitude and sign.
+// n as an f32, from its magnitude and sign. They go apart to the two below: n as one number would be taken
+// apart again.
 #[tactic(auto, unfolding(crate::specs::Turns::turns_float), using(single::proofs::Integers::as_i64, single::proofs::Integers::negated_i64))]
 fn turns_float(negative: bool, k: u32) -> f32
     requires { k ≤ 2 ^ 21 }
