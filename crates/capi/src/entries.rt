@@ -1,5 +1,5 @@
-// The entries of the lookup and the cone; gain.rt has the gain's. Each writes its answer or zeros by
-// itself: one function for the three would take the height left, which the gain alone has.
+// The entries of the lookup and the cone; gain.rt has the gain's. Each writes its answer or zeros, with
+// its number by one match: one function for the three would take the height left, which the gain alone has.
 ghost use Rattle.std.specs.Prelude.{◌≡◌};
 ghost use Rattle.capi.specs.Entries.{lookup_result, lookup_answer, cone_result, cone_answer};
 

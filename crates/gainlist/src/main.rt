@@ -72,7 +72,7 @@ fn list_piece(
 }
 
 // To the end of the input. Text is written before the next read, so that who sends cards one by one
-// is answered.
+// is answered. The reads are counted so that the loop is known to end.
 fn list_all(
     mut from: Stdin,
     to: Stdout,
