@@ -1,15 +1,11 @@
 -- The MHz and the degrees of a lookup within the limits are small, and the MHz are cut to a number that a cast to f32 keeps. Assumes nothing.
-use Prim.Native.Nat.{ℕ, ◌-◌, ◌*◌, ◌/◌, ◌^◌, ◌≤◌, min}
-use mathlib.Core.Path.{◌≡◌, refl, sym, ap, subst}
-use mathlib.Core.Bool.{true, false}
+use Prim.Native.Nat.{ℕ, ◌^◌, ◌≤◌}
+use mathlib.Core.Path.{◌≡◌, refl, sym, subst}
+use mathlib.Core.Bool.{false}
 use native.Mathlib.Nat.{le_trans, mul-le-mul, le_refl}
-use native.Mathlib.Omega.{arith}
 use lib.Dec.{T, lit≤}
-use lib.IntN.{ℤ, pos, neg_ℤ}
-use lib.Ieee.{Float, nan, inf, fin, binary32, up, down, lt, round, of_bits, to_signed, in_float}
-use lib.Ieee.Casts.{to_signed_in}
-use mir.Syntax.{w32}
-use Rattle.std.proofs.Common.{SFits}
+use lib.IntN.{ℤ}
+use lib.Ieee.{Float, nan, inf, fin, binary32, down, lt, round, of_bits, in_float}
 use Rattle.single.specs.Single.{◌⊞◌, ◌⊠◌, num}
 use Rattle.single.proofs.Magnitude.{Mag, mul_mag, add_mag}
 use Rattle.elementary.specs.Basic.{cut_toward}
@@ -37,22 +33,3 @@ pub cut-kept : (x : Float) → outside x ≡ false → T (in_float binary32 (cut
 cut-kept x h =
     let m : Mag (2 ^ 21) x = within_mag x h in
     subst (λ (z : ℤ). T (in_float binary32 z)) (sym (cut_parts x m)) (signed_float (lt x (of_bits binary32 0)) (whole_part x) (whole_below x (2 ^ 21) m))
-
-pub cut_fits : (x : Float) → SFits w32 (cut_toward x)
-unfolding cut_toward
-cut_fits x = record { sfits = to_signed_in 31 x }
-
-either_end : (w a b : ℕ) → w ≤ a → w ≤ b → min w a ≡ min w b
-either_end w a b h g = omega arith
-
--- a number so small is cut as an i64 is
-pub cut_small : (x : Float) → Mag (2 ^ 21) x → to_signed 63 x ≡ cut_toward x
-unfolding cut_toward to_signed
-cut_small nan m = absurd m
-cut_small (inf s) m = absurd m
-cut_small (fin true n e) m =
-    let w : n * up e / down e ≤ 2097152 = whole_below (fin true n e) (2 ^ 21) m in
-    ap (λ (k : ℕ). neg_ℤ (pos k)) (either_end (n * up e / down e) (2 ^ 63) (2 ^ 31) (omega arith) (omega arith))
-cut_small (fin false n e) m =
-    let w : n * up e / down e ≤ 2097152 = whole_below (fin false n e) (2 ^ 21) m in
-    ap pos (either_end (n * up e / down e) (2 ^ 63 - 1) (2 ^ 31 - 1) (omega arith) (omega arith))

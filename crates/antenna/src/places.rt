@@ -18,12 +18,18 @@ pub(crate) struct Place {
     pub xdelta: f32,
 }
 
-// `as i32`, of a number so small that no end of the range is tested for.
+// `as i32`: from 1 up by the digits and the exponent's field, as trigonometric's whole_part. By the
+// library's truncation a lookup took a fifth longer.
 fn cut(x: f32) -> i32
     requires { Mag (2 ^ 21) x }
     ensures { result ≡ cut_toward x }
 {
-    std::num::truncating_f32_to_i64(x) as i32
+    let b = f32::to_bits(x);
+    if 0x3f80_0000 <= b && b < 0x8000_0000 {
+        ((8388608 + b % 8388608) >> (150 - b / 8388608)) as i32
+    } else {
+        elementary::cut(x)
+    }
 }
 
 // The indices are clamped, the fractions are not.

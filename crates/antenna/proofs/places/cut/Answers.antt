@@ -1,30 +1,60 @@
-use mathlib.Core.Path.{◌≡◌, sym, subst, ◌∙◌}
-use Prim.Native.Nat.{◌^◌}
-use lib.Dec.{lit<}
-use mir.Syntax.{w32, w64}
-use mir.Val.{to_z, of_z}
-use mir.ValLaws.{to_z-of_z}
-use borrow.Author.Rules.{sfits_of}
-use Rattle.std.proofs.Common.{SFits}
-use Rattle.single.proofs.Magnitude.{in_i64}
+use mathlib.Core.Path.{◌≡◌, sym, subst, ap, ◌∙◌}
+use mathlib.Core.Bool.{true, false}
+use Prim.Native.Nat.{ℕ, ◌+◌, ◌-◌, ◌*◌, ◌/◌, ◌%◌, ◌^◌, ◌≤◌, ◌<◌, min}
+use native.Mathlib.Nat.{le_trans}
+use native.Mathlib.Omega.{arith}
+use borrow.Author.Tests.{lt-leb}
+use lib.Dec.{T, lit≤}
+use lib.IntN.{pos}
+use lib.Ieee.{Float, nan, inf, fin, binary32, up, down, fits, to_bits, to_signed}
+use lib.Ieee.Bits.{of_bits-to_bits}
+use mir.Syntax.{w32}
+use mir.ValLaws.{to_z_pos}
+use Rattle.single.specs.Single.{is_negative}
+use Rattle.single.proofs.Magnitude.{Mag, mag_no_nan}
+use Rattle.single.proofs.Sign.{sign_bit}
 use Rattle.elementary.specs.Basic.{cut_toward}
-use Rattle.antenna.proofs.Cuts.{cut_fits, cut_small}
+use Rattle.basic.specs.WholePart.{whole_part}
+use Rattle.basic.proofs.WholePart.{whole_below, field_below, whole_digits}
 use Rattle.antenna.proofs.places.cut.Goals as goal
-use Rattle.antenna.proofs.places.cut.Goals.{After-truncating_f32_to_i64}
 
--- what the call hands back is the cut
-is : (c : After-truncating_f32_to_i64) → to_z w64 (of_z w64 c.truncating_f32_to_i64.result) ≡ cut_toward c.args.x
-is c =
-    let r = c.truncating_f32_to_i64 in
-    to_z-of_z w64 r.result (sfits_of r.type_inv) ∙ r.ensures ∙ cut_small _ c.requires
+min-left : (a b : ℕ) → a ≤ b → min a b ≡ a
+min-left a b h = omega arith
 
-pub truncating_f32_to_i64-requires : goal.truncating_f32_to_i64-requires
-truncating_f32_to_i64-requires c =
-    let bounds = in_i64 c.args.x (2 ^ 21) (lit< tt) c.requires in
-    record { lower_bound = bounds.0; upper_bound = bounds.1 }
+plus : (x : Float) → Mag (2 ^ 21) x → is_negative x ≡ false → pos (whole_part x) ≡ cut_toward x
+unfolding cut_toward to_signed
+plus nan m h = absurd m
+plus (inf s) m h = absurd m
+plus (fin false n e) m h = ap pos (sym (min-left (n * up e / down e) (2 ^ 31 - 1) (le_trans (whole_below (fin false n e) (2 ^ 21) m) (lit≤ tt))))
+plus (fin true n e) m h = absurd (subst T h tt)
+
+module _ (x : Float) (m : Mag (2 ^ 21) x) (f : T (fits binary32 x)) (low : 1065353216 ≤ to_bits binary32 x) (high : to_bits binary32 x < 2147483648) where
+  abbrev b : ℕ
+  b = to_bits binary32 x
+
+  field : b / 8388608 ≤ 150
+  field = field_below x b high (of_bits-to_bits binary32 x f) m
+
+  digits : (8388608 + b % 8388608) / 2 ^ (150 - b / 8388608) ≡ whole_part x
+  digits = whole_digits x b high (of_bits-to_bits binary32 x f) m (omega arith)
+
+  small : (8388608 + b % 8388608) / 2 ^ (150 - b / 8388608) ≤ 2 ^ 21
+  small = subst (λ (k : ℕ). k ≤ 2 ^ 21) (sym digits) (whole_below x (2 ^ 21) m)
+
+  whole : pos ((8388608 + b % 8388608) / 2 ^ (150 - b / 8388608)) ≡ cut_toward x
+  whole = ap pos digits ∙ plus x m (sym (sign_bit x f (mag_no_nan (2 ^ 21) x m)) ∙ lt-leb 2147483648 b high)
+
+pub float_to_bits-b : goal.float_to_bits-b
+float_to_bits-b c = mag_no_nan (2 ^ 21) c.args.x c.requires
+
+pub overflow_sub-result : goal.overflow_sub-result
+overflow_sub-result c = field c.args.x c.requires (subst T (sym c.well_formed.0.1) tt) c.if-b-ge1065353216.true c.if-b-lt2147483648.true
 
 pub overflow_cast-result : goal.overflow_cast-result
-overflow_cast-result c = subst (SFits w32) (sym (is c)) (cut_fits c.args.x)
+overflow_cast-result c = let h = small c.args.x c.requires (subst T (sym c.well_formed.0.1) tt) c.if-b-ge1065353216.true c.if-b-lt2147483648.true in record { sfits = omega (arith, h) }
 
-pub returns : goal.returns
-returns c = to_z-of_z w32 _ (subst (SFits w32) (sym (is c)) (cut_fits c.args.x)) ∙ is c
+pub returns-then-b-lt2147483648 : goal.returns-then-b-lt2147483648
+returns-then-b-lt2147483648 c =
+    let f = subst T (sym c.well_formed.0.1) tt in
+    let h = small c.args.x c.requires f c.if-b-ge1065353216.true c.if-b-lt2147483648.true in
+    to_z_pos w32 _ (omega (arith, h)) ∙ whole c.args.x c.requires f c.if-b-ge1065353216.true c.if-b-lt2147483648.true
