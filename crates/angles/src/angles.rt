@@ -5,6 +5,7 @@ ghost use Rattle.angles.specs.Angles.{wave_of, radians_of, azimuth_of, elevation
 // constants.rs's, one step below the f32 nearest to pi.
 pub const PI: f32 = 3.1415926;
 
+// The sine and cosine have the Rust's names, here and in an elevation.
 #[derive(Clone, Copy)]
 pub struct Azimuth {
     pub reta: f32,

@@ -40,9 +40,9 @@ pub fn gain_lookup_in_bytes(bytes: &[u8], fmc: f32, delta: f32) -> Result<GainEf
     lookup(bytes, fmc, delta)
 }
 
-// The verdict is a number still: a caller may hold any, and a narrower type would ask more of it.
 // By the card's first and last MHz and its verdict: only the rows that it filled are read, outside its
-// range the nearest one, and a refused card gives zeros.
+// range the nearest one, and a refused card gives zeros. Numbers still: a caller may hold any, and a
+// narrower type would ask more of it; a struct of the three would be made only to be handed on.
 pub fn card_lookup(
     first: i32,
     last: i32,

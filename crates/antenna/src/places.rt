@@ -20,6 +20,7 @@ pub(crate) struct Place {
 
 // `as i32`: from 1 up by the digits and the exponent's field, as trigonometric's whole_part. By the
 // library's truncation a lookup took a fifth longer.
+#[tactic(auto, unfolding(elementary::specs::Basic::cut_toward), using(single::proofs::Magnitude::mag_no_nan, single::proofs::Sign::sign_bit, basic::proofs::WholePart::whole_below, basic::proofs::WholePart::field_below, basic::proofs::WholePart::whole_digits))]
 fn cut(x: f32) -> i32
     requires { Mag (2 ^ 21) x }
     ensures { result ≡ cut_toward x }
@@ -33,6 +34,7 @@ fn cut(x: f32) -> i32
 }
 
 // The indices are clamped, the fractions are not.
+#[tactic(auto, unfolding(single::proofs::Literals::round, single::proofs::Literals::of_bits), using(crate::proofs::Cuts::within_mag, crate::proofs::Cuts::degrees_mag))]
 pub(crate) fn locate(fmc: f32, delta: f32) -> Place
     requires { (outside fmc ≡ false) × (outside delta ≡ false) }
     ensures { result ≡ place_of fmc delta }

@@ -8,7 +8,7 @@ ghost use Rattle.antenna.specs.ByteTables.{table_of};
 const BYTES: usize = 11040;
 
 pub(crate) trait Table: Copy {
-    // None of a table of the wrong length.
+    // Of bytes none where their length is wrong.
     ghost numbers: { Self → List Float };
 
     fn is_table(self) -> bool

@@ -17,6 +17,7 @@ fn from_base(base: f32, w: f32) -> f32
         + w)
 }
 
+#[tactic(auto, unfolding(crate::specs::Arctangent::arctangent_of, single::proofs::Literals::round, single::proofs::Literals::of_bits))]
 fn arctangent_of(a: f32) -> f32
     ensures { result ≡ arctangent_of a }
 {
@@ -29,6 +30,7 @@ fn arctangent_of(a: f32) -> f32
     }
 }
 
+#[tactic(auto, unfolding(crate::specs::Arctangent::arctangent, single::proofs::Literals::neg), using(basic::proofs::Absolute::absolute_minus, basic::proofs::Absolute::absolute_plus))]
 pub fn atan(x: f32) -> f32
     ensures { result ≡ arctangent x }
 {
@@ -39,6 +41,7 @@ pub fn atan(x: f32) -> f32
     }
 }
 
+#[tactic(auto, unfolding(crate::specs::Arctangent::arcsine, single::proofs::Literals::round, single::proofs::Literals::of_bits))]
 pub fn asin(y: f32) -> f32
     ensures { result ≡ arcsine y }
 {

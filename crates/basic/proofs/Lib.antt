@@ -1,2 +1,4 @@
+pub mod Sign
 pub mod Absolute
 pub mod WholePart
+pub mod Larger

@@ -1,6 +1,6 @@
 -- The whole part of a number's magnitude, from its pattern; its sign and float. Assumes nothing.
 use Rattle.std.proofs.Common.{◌≡◌, ℕ, zero, suc, ◌+◌, ◌-◌, ◌*◌, ◌/◌, ◌%◌, ◌^◌, ◌<◌, ◌≤◌, min, Bool, true, false, cond, not, T, eqb, ltb, leb, pos, neg_ℤ, sym, refl, ap, ◌∙◌, subst, le_trans, le_refl, lt_of_lt_of_le, le_of_suc-le-suc, lt_of_le_of_lt, mul_assoc, suc-mul, div-lt_iff_lt-mul, mul-le-mul, lt_of_not-le, zero-mul, mul_right_comm, not-le_of_lt, le_of_mul-le-mul_right, arith, lit<, lit≤, le→leb, lt→ltb, leb→le, pow_pos, pow_mono, pow-add, ltb-false, le-ltb}
-use native.Mathlib.Nat.{div-eq_of_lt}
+use native.Mathlib.Nat.{div-eq_of_lt, min-eq_left}
 use lib.Dec.{nleb→lt}
 use lib.Ieee.{Float, nan, inf, fin, binary32, up, down, lt, of_bits, to_signed, in_float}
 use lib.Ieee.Exact.{HasValue}
@@ -89,9 +89,6 @@ module _ (u : Float) (b : ℕ) (B : b < 2147483648) (is : of_bits binary32 b ≡
       (mul_assoc Q (2 ^ (E - 1)) (2 ^ (150 - E)) ∙ ap (λ (x : ℕ). Q * x) (sym (pow-add 2 (E - 1) (150 - E)) ∙ ap (λ (x : ℕ). 2 ^ x) (let k : E ≤ 150 = field_below in let z : E - 1 + (150 - E) ≡ 149 = omega arith in z))))
 
 -- ---- n, of a small number
-min-left : (a b : ℕ) → a ≤ b → min a b ≡ a
-min-left a b h = omega arith
-
 minus_zero : (b : Bool) (w : ℕ) → (b ≡ false → w ≡ 0) → neg_ℤ (pos w) ≡ signed b w
 minus_zero true w h = refl
 minus_zero false w h = subst (λ (x : ℕ). neg_ℤ (pos x) ≡ pos x) (sym (h refl)) refl
@@ -105,10 +102,10 @@ cut_parts nan m = absurd m
 cut_parts (inf s) m = absurd m
 cut_parts (fin false n e) m =
     let w : n * up e / down e ≤ 2097152 = whole_below (fin false n e) (2 ^ 21) m in
-    simp (le-ltb (n * up e * 1) (0 * down e) (let z : 0 * down e ≡ 0 = zero-mul (down e) in omega arith)) (ap pos (min-left (n * up e / down e) (2 ^ 31 - 1) (le_trans w (lit≤ tt))))
+    simp (le-ltb (n * up e * 1) (0 * down e) (let z : 0 * down e ≡ 0 = zero-mul (down e) in omega arith)) (ap pos (min-eq_left (le_trans w (lit≤ tt))))
 cut_parts (fin true n e) m =
     let w : n * up e / down e ≤ 2097152 = whole_below (fin true n e) (2 ^ 21) m in
-    ap (λ (k : ℕ). neg_ℤ (pos k)) (min-left (n * up e / down e) (2 ^ 31) (le_trans w (lit≤ tt))) ∙ negative (n * up e) (down e) (down_pos e)
+    ap (λ (k : ℕ). neg_ℤ (pos k)) (min-eq_left (le_trans w (lit≤ tt))) ∙ negative (n * up e) (down e) (down_pos e)
 
 -- ---- n as a float
 pub signed_float : (s : Bool) (k : ℕ) → k ≤ 2 ^ 21 → T (in_float binary32 (signed s k))

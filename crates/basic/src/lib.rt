@@ -13,6 +13,7 @@ pub fn abs(x: f32) -> f32
 }
 
 // The sign bit, of a zero too; false for NaN.
+#[tactic(auto, using(crate::proofs::Sign::sign_is, crate::proofs::Sign::nan_is))]
 pub fn is_negative(x: f32) -> bool
     ensures { result ≡ is_negative x }
 {

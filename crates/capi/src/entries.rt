@@ -1,5 +1,6 @@
 // The entries of the lookup and the cone; gain.rt has the gain's. Each writes its answer or zeros, with
-// its number by one match: one function for the three would take the height left, which the gain alone has.
+// its number by one match. One function for both would take the cone's one value for a lookup's two, and
+// one for the three the height left, which the gain alone has.
 ghost use Rattle.std.specs.Prelude.{◌≡◌};
 ghost use Rattle.capi.specs.Entries.{lookup_result, lookup_answer, cone_result, cone_answer};
 

@@ -1,4 +1,4 @@
-// The gain entry.
+// The gain entry. It writes its answer or zeros, with its number by one match, as entries.rt's do.
 ghost use Rattle.std.specs.Prelude.{◌≡◌};
 ghost use Rattle.capi.specs.Gain.{call_of, gain_result, gain_answer};
 

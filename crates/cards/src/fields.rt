@@ -10,7 +10,7 @@ use refusals::Refusal;
 const MOST: i32 = 1000;
 
 // As document 01 says it: the type, the first and the last MHz, the off-azimuth in degrees, 20
-// slots and the model.
+// slots and the model. The MHz stay two, in a card too: they are a range only where the card is accepted.
 #[derive(Clone, Copy)]
 pub struct Fields {
     pub kop: i32,

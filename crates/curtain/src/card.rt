@@ -27,7 +27,8 @@ fn count_of(x: f32, most: u8, negative: u8) -> u8
     }
 }
 
-// An even whole number, zero among them. From 2 ^ 24 on every finite f32 is one.
+// An even whole number, zero among them. From 2 ^ 24 on every finite f32 is one. Not by `phi % 2.0`,
+// of which Rattle's own compiler makes a call that a C library may lack.
 #[tactic(auto, unfolding(single::proofs::Literals::of_bits), using(crate::proofs::Even::even_whole, crate::proofs::Even::part_not_even, crate::proofs::Even::even_large))]
 fn is_even(phi: f32) -> bool
     ensures { result ≡ eq (rem binary32 phi (num 2 1)) (num 0 1) }

@@ -11,7 +11,8 @@ use angles::{Azimuth, Elevation};
 use reflection::Soil;
 
 // An elevation `delta` with its sine and cosine; the threshold is the model's. No reflection is
-// computed near the vertical. `delta` stays beside them: no other pattern takes the angle itself.
+// computed near the vertical. `delta` stays beside them: no other pattern takes the angle itself. So do
+// card and row: the one holds for a whole card, the other for its MHz alone.
 #[tactic(auto, unfolding(crate::specs::Cell::cell_of))]
 pub fn curtain_cell(
     card: CurtainCard,

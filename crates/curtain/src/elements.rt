@@ -6,7 +6,8 @@ use crate::element_count::ElementCount;
 use angles::PI;
 use reflection::Ground;
 
-// CA and SA of the elements; the rest of the ten stay 0. Two arrays, as document 01 asks for them.
+// CA and SA of the elements; the rest of the ten stay 0. Two arrays, as document 01 asks for them. How
+// many are summed is the card's, and stays beside them as in the definitions.
 #[derive(Clone, Copy)]
 pub(crate) struct Waves {
     ca: [f32; 10],

@@ -16,7 +16,8 @@ pub struct CurtainRow {
     pub dz: f32,
 }
 
-// A spacing not above 0 is in wavelengths. Not slopes' `ht_of`, which takes 0 as metres.
+// A spacing not above 0 is in wavelengths. Not slopes' `ht_of`, which takes 0 as metres; and lengths'
+// phase_in_waves would make a phase that nothing takes.
 #[tactic(auto, unfolding(crate::specs::Row::spacing_of, single::proofs::Literals::round, single::proofs::Literals::of_bits))]
 fn spacing(v: f32, wave: f32) -> f32
     ensures { result ≡ spacing_of v wave }

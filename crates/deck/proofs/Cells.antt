@@ -11,7 +11,7 @@ use Rattle.rows.specs.Row.{height_for, row_of}
 use Rattle.rows.specs.declared.row.Row.{Row}
 use Rattle.std.specs.Prelude.{Option, Some, None}
 use Rattle.rows.proofs.Height.{Own, row_own}
-use Rattle.integrals.specs.Settled.{unsettled_number}
+use Rattle.integrals.specs.Settled.{unsettled_number, settled_value}
 use Rattle.integrals.specs.declared.settled.Settled.{Settled}
 use Rattle.cells.specs.Cell.{blends_with_zenith}
 use Rattle.gain_core.specs.Core.{zenith_gain_for, above_from, above_ground, at_ground}
@@ -72,7 +72,7 @@ module _ (c : Card) (m : ℕ) where
     pub above_settled : (d : ℕ) (h : Float) → d < 90
         → call_of c m (suc d) h
         ≡ record { refusal = 0; gain = cell_at row (zenith_gain_for row) (antenna_for c).azimuth (suc d); efficiency = row.eff; height = row.x }
-    unfolding above_ground unsettled_number
+    unfolding above_ground unsettled_number settled_value
     above_settled d h k = call_above d h k ∙ ap (answer_from d) is
 
     own : Own (antenna_for c) (whole m) row
@@ -85,7 +85,7 @@ module _ (c : Card) (m : ℕ) where
     Ground h a = (a.refusal ≡ 0) × (a.gain ≡ ground_cell (antenna_for c).kind (zenith_gain_for row) (column_at 0) h)
 
     pub ground_settled : (h : Float) → Ground h (call_of c m 0 h)
-    unfolding at_ground zenith_gain_for ground_cell unsettled_number
+    unfolding at_ground zenith_gain_for ground_cell unsettled_number settled_value
     ground_settled h =
         at_ground_lem h (Ground h)
         (λ up. elim up as (λ k. blends ≡ k → Ground h (ground h)) [

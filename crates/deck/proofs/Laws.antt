@@ -27,9 +27,10 @@ use Rattle.cells.specs.Cell as Cell
 use Rattle.cells.proofs.Blends.{blends_kind}
 use Rattle.std.specs.Prelude.{Option, Some, None}
 use Rattle.std.proofs.lemmas.Bool.{or_parts}
-use Rattle.integrals.specs.Settled.{unsettled_number}
+use Rattle.integrals.specs.Settled.{unsettled_number, settled_value}
+use Rattle.integrals.specs.declared.settled.Settled.{Settled}
 use Rattle.gain_core.specs.Core.{above_ground, work_of}
-use Rattle.gain_core.specs.declared.calls.Call.{Call}
+use Rattle.gain_core.specs.declared.calls.Answer as Gain
 use Rattle.gain_core.proofs.Laws.{OfCall, AboveFloor, left_above, ground_value, zenith_ground_same, number_same, floor_above}
 use Rattle.independence.specs.Antenna.{Answer, floor_plus, carries_height, has_second_call, height_left}
 use Rattle.independence.specs.Laws.{Fills, Laws}
@@ -44,23 +45,23 @@ use Rattle.deck.proofs.Passes.{is_type_lem, in_range_lem, fields_number, params_
 use Rattle.deck.proofs.Cells.{call_above, call_ground}
 
 -- ---- answers of a worked call
-answer_number_lem : (w : Option Call) → ((answer_of w).refusal ≢ 9) × ((answer_of w).refusal ≢ 10)
+answer_number_lem : (w : Option (Settled Gain.Answer)) → ((answer_of w).refusal ≢ 9) × ((answer_of w).refusal ≢ 10)
 unfolding unsettled_number
 answer_number_lem (Some call) = (λ p. omega arith, λ p. omega arith)
 answer_number_lem None = (λ p. omega arith, λ p. omega arith)
 
-number_is : (w : Option Call) → (answer_of w).refusal ≡ unsettled_number w
+number_is : (w : Option (Settled Gain.Answer)) → (answer_of w).refusal ≡ unsettled_number w
 number_is (Some call) = refl
 number_is None = refl
 
-answer_height : (x : Float) (w : Option Call) → OfCall (λ call. call.height ≡ x) w → (answer_of w).refusal ≡ 0 → (answer_of w).height ≡ x
-unfolding unsettled_number
+answer_height : (x : Float) (w : Option (Settled Gain.Answer)) → OfCall (λ call. call.height ≡ x) w → (answer_of w).refusal ≡ 0 → (answer_of w).height ≡ x
+unfolding unsettled_number settled_value
 answer_height x (Some call) own e = own
 answer_height x None own e = let z : ⊥ = omega arith in absurd z
 
-answer_floor : (w : Option Call) → OfCall (λ call. AboveFloor call.gain call.efficiency) w → (answer_of w).refusal ≡ 0
+answer_floor : (w : Option (Settled Gain.Answer)) → OfCall (λ call. AboveFloor call.gain call.efficiency) w → (answer_of w).refusal ≡ 0
     → AboveFloor (answer_of w).gain (answer_of w).efficiency
-unfolding unsettled_number
+unfolding unsettled_number settled_value
 answer_floor (Some call) own e = own
 answer_floor None own e = let z : ⊥ = omega arith in absurd z
 
@@ -138,7 +139,7 @@ module _ (f : Fields) (m : ℕ) (p : fields_refusal f ≡ 0) where
         efficiency = efficiency_of (kind_of f.kop) h (num 0 1);
         height = h;
       }
-  unfolding card_of antenna_for unsettled_number
+  unfolding card_of antenna_for unsettled_number settled_value
   ground_is h n =
       call_ground (card_of f) m h ∙ ap answer_of (ground_value (antenna_for (card_of f)) (whole m) (column_at 0) h (looks f p ∙ n))
 

@@ -1,9 +1,9 @@
 -- Document 01 section 8: the entries run on a deck; its state and limit passed on. Definitions only.
-use Rattle.std.specs.Prelude.{List, ◌+◌, ◌<◌, Float, Result, Ok, Err}
+use Rattle.std.specs.Prelude.{List, ◌+◌, ◌<◌, Float, Option, Some, None, Result, Ok, Err}
 use Rattle.refusals.specs.declared.Refusal.{Refusal}
 use Rattle.refusals.specs.Refusals.{number_of, judged}
 use Rattle.table.specs.Table.{refused_table}
-use Rattle.independence.specs.Deck.{Entry, card, malformed, outcome_on, deck_after}
+use Rattle.independence.specs.Deck.{Line, Entry, card, malformed, outcome_on, deck_after}
 use Rattle.independence.specs.EntryContracts.{EntryDone}
 pub use Rattle.deck_state.specs.DeckState.{count_limit, deck_of, state_of, refused_within}
 use Rattle.deck_state.specs.declared.Deck.{Deck}
@@ -17,11 +17,23 @@ card_entry f t = record { line = card f; table = t }
 abbrev pub malformed_entry : List Float → Entry the_antenna
 malformed_entry t = record { line = malformed; table = t }
 
+-- a line's entry, by what was read of it: a card's fields, or none of a malformed line
+abbrev pub line_in : Option Fields → Line the_antenna
+line_in (Some f) = card f
+line_in None = malformed
+
+abbrev pub line_entry : Option Fields → List Float → Entry the_antenna
+line_entry l t = record { line = line_in l; table = t }
+
 -- the whole answer: the deck left and the verdict
 abbrev pub answer_on : Deck → Entry the_antenna → CardAnswer
 answer_on deck e =
     let state = state_of deck in
     record { deck = deck_of (deck_after the_antenna count_limit state e); verdict = judged (outcome_on the_antenna count_limit state e).verdict }
+
+-- the answer of a refused entry: the height found is kept
+abbrev pub refused_answer : Deck → Refusal → CardAnswer
+refused_answer deck e = record { deck = deck_of (refused_within (state_of deck) (number_of e)); verdict = Err e }
 
 -- A card's fields judged and then its rows filled: the table t becomes t'. The entry is done with the height left and a count,
 -- or, refused, once the table is cleared

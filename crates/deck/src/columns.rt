@@ -6,7 +6,8 @@ ghost use Rattle.deck.specs.Columns.{ColumnsAre};
 use column_sines::column_sines;
 use table::COLUMNS;
 
-// In radians, with their cosines and sines. Apart: the sines are column_sines' table as it stands.
+// In radians, with their cosines and sines. Apart: the sines are column_sines' table as it stands,
+// and the ground cell reads no delta.
 #[derive(Clone, Copy)]
 pub(crate) struct Columns {
     pub deltas: [f32; COLUMNS],

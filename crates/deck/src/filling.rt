@@ -13,7 +13,7 @@ use refusals::Refusal;
 use table::Table;
 
 // The height left.
-#[tactic(auto, using(crate::proofs::CardRows::rows_of))]
+#[tactic(auto, using(crate::proofs::BeforeWork::number_not_zero, crate::proofs::CardRows::rows_of, crate::proofs::CardRows::rows_read, crate::proofs::CardRows::rows_start, crate::proofs::CardRows::rows_step, crate::proofs::CardRows::rows_last, crate::proofs::CardRows::rows_stop, crate::proofs::CardRows::rows_end))]
 pub(crate) fn fill_card(fields: Fields, height: f32, table: &mut Table) -> Result<f32, Refusal>
     requires { fields_refusal fields ≡ 0 }
     ensures { CardDone the_antenna fields height table.old table.new (outcome_number result) (outcome_values height result) }

@@ -6,4 +6,4 @@ mod row;
 mod run;
 
 pub use deck_state::{Deck, fresh};
-pub use run::{CardAnswer, run_card, run_malformed};
+pub use run::{CardAnswer, run_card, run_entry, run_malformed};

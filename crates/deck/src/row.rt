@@ -26,6 +26,7 @@ fn ground_cell(kind: Kind, zenith: f32, e: Elevation, height: f32) -> f32
 }
 
 // m is asked to be a row's number: a type for it would be made and taken apart at each row.
+#[tactic(auto, using(crate::proofs::Elevations::column_read, crate::proofs::Stored::stored_start, crate::proofs::Stored::stored_step))]
 fn fill_above(
     row: Row,
     zenith: f32,

@@ -4,8 +4,10 @@ use crate::tables::BEFORE;
 use cards::Fields;
 use deck::{CardAnswer, Deck};
 use parameters::Model;
+use refusals::Refusal;
+use table::{TABLE_LENGTH, Table};
 
-// The values are slots 6 to 12.
+// The values are slots 6 to 12; the first and the last MHz stand apart, as in the card's fields.
 pub(crate) fn card_at(
     kop: i32,
     first: i32,
@@ -54,31 +56,48 @@ pub(crate) fn curtain(first: i32, last: i32, elements: f32) -> Fields {
     )
 }
 
-// The deck of the removals, counted from 1: entry 3 is refused by 1.
+// The deck of the removals. The third is refused by 1, the seventh is a malformed line.
 pub(crate) const ENTRIES: usize = 10;
 
-// By the entry's place in the deck: an array would be built anew at each. Entry 7 is a malformed line.
-pub(crate) fn entry_card(k: usize) -> Option<Fields> {
-    let fields = match k {
-        1 => rhombic(2, 4),
-        2 => monopole(2, 3, -0.1),
-        3 => card(11, 2, 4, [0.0; 7]),
-        4 => curtain(5, 6, 4.0),
-        5 => log_periodic(7, 8, 3.0),
-        6 => card(3, 9, 10, [-0.5, 12.0, 0.0, 0.0, 0.0, 0.0, 0.0]),
-        7 => return None,
-        8 => monopole(1, 1, 4.0),
-        9 => card(10, 29, 30, [70.0, 115.0, 18.0, 3.0, 15.0, 0.0, 0.0]),
-        _ => log_periodic(1, 30, -0.2),
-    };
-    Some(fields)
+pub(crate) fn entries() -> [Option<Fields>; ENTRIES] {
+    [
+        Some(rhombic(2, 4)),
+        Some(monopole(2, 3, -0.1)),
+        Some(card(11, 2, 4, [0.0; 7])),
+        Some(curtain(5, 6, 4.0)),
+        Some(log_periodic(7, 8, 3.0)),
+        Some(card(3, 9, 10, [-0.5, 12.0, 0.0, 0.0, 0.0, 0.0, 0.0])),
+        None,
+        Some(monopole(1, 1, 4.0)),
+        Some(card(10, 29, 30, [70.0, 115.0, 18.0, 3.0, 15.0, 0.0, 0.0])),
+        Some(log_periodic(1, 30, -0.2)),
+    ]
 }
 
 // A card, or a malformed line. Each entry brings the same table.
 pub(crate) fn run_entry(card: Option<Fields>, deck: Deck, table: &mut [f32]) -> CardAnswer {
     table::fill(table, BEFORE);
-    match card {
-        Some(fields) => deck::run_card(deck, fields, table),
-        None => deck::run_malformed(deck, table),
+    deck::run_entry(deck, card, table)
+}
+
+// A deck, and the table of its last entry.
+#[derive(Drop)]
+pub(crate) struct DeckAndTable {
+    deck: Deck,
+    pub table: Table,
+}
+
+impl DeckAndTable {
+    pub(crate) fn fresh() -> DeckAndTable {
+        DeckAndTable {
+            deck: deck::fresh(),
+            table: [BEFORE; TABLE_LENGTH],
+        }
+    }
+
+    pub(crate) fn run(&mut self, card: Option<Fields>) -> Result<(), Refusal> {
+        let answer = run_entry(card, self.deck, &mut self.table);
+        self.deck = answer.deck;
+        answer.verdict
     }
 }

@@ -1,24 +1,23 @@
 #![tactic(auto)]
 // Document 01's two cards in its listing's form, and swapped.
-ghost use Rattle.std.specs.Prelude.{◌<◌};
+ghost use Rattle.std.specs.Prelude.{◌≤◌};
 
-use crate::example_cards::card_at;
-use crate::text::{print, print_hundredths, print_narrow};
+use crate::example_cards::{DeckAndTable, card_at};
+use crate::text::InHundredths;
 use cards::Fields;
-use deck::Deck;
 use parameters::Model;
 use refusals::verdict_number;
 use std::io;
 use table::{COLUMNS, GAINS, Table};
 
 // MHz, efficiency and ground gain.
-fn print_row(rt: &impl Print, row: usize, mhz: u32, table: &Table) -> io::Result<()>
-    requires { row < 30 }
+fn print_row(rt: &impl Print, mhz: usize, table: &Table) -> io::Result<()>
+    requires { (1 ≤ mhz) × (mhz ≤ 30) }
 {
-    print_narrow(rt, mhz)?;
-    print_hundredths(rt, table[GAINS + row])?;
-    print_hundredths(rt, table[row * COLUMNS])?;
-    print(rt, b"\n")
+    let row = mhz - 1;
+    let efficiency = InHundredths(table[GAINS + row]);
+    let ground = InHundredths(table[row * COLUMNS]);
+    println!(rt; "{mhz:>3}{efficiency}{ground}")
 }
 
 fn card(kop: i32, values: [f32; 7]) -> Fields {
@@ -34,27 +33,24 @@ fn type_two() -> Fields {
 }
 
 // A card of 2 to 3 MHz.
-fn print_card(rt: &impl Print, fields: Fields, deck: Deck, table: &mut Table) -> io::Result<Deck> {
-    let answer = deck::run_card(deck, fields, table);
-    print_narrow(rt, fields.kop.unsigned_abs())?;
-    print_narrow(rt, verdict_number(answer.verdict))?;
-    print(rt, b"\n")?;
-    print_row(rt, 1, 2, table)?;
-    print_row(rt, 2, 3, table)?;
-    Ok(answer.deck)
+fn print_card(rt: &impl Print, fields: Fields, deck: &mut DeckAndTable) -> io::Result<()> {
+    let verdict = verdict_number(deck.run(Some(fields)));
+    println!(rt; "{:>3}{verdict:>3}", fields.kop)?;
+    print_row(rt, 2, &deck.table)?;
+    print_row(rt, 3, &deck.table)
 }
 
-fn print_in_turn(rt: &impl Print, cards: [Fields; 2], table: &mut Table) -> io::Result<()> {
-    let mut deck = deck::fresh();
+fn print_in_turn(rt: &impl Print, cards: [Fields; 2]) -> io::Result<()> {
+    let mut deck = DeckAndTable::fresh();
     for fields in cards {
-        deck = print_card(rt, fields, deck, table)?;
+        print_card(rt, fields, &mut deck)?;
     }
     Ok(())
 }
 
-pub(crate) fn print_listings(rt: &impl Print, table: &mut Table) -> io::Result<()> {
-    print(rt, b"Document 01's cards of types 2 and 1\n")?;
-    print_in_turn(rt, [type_two(), type_one()], table)?;
-    print(rt, b"Swapped\n")?;
-    print_in_turn(rt, [type_one(), type_two()], table)
+pub(crate) fn print_listings(rt: &impl Print) -> io::Result<()> {
+    println!(rt; "Document 01's cards of types 2 and 1")?;
+    print_in_turn(rt, [type_two(), type_one()])?;
+    println!(rt; "Swapped")?;
+    print_in_turn(rt, [type_one(), type_two()])
 }

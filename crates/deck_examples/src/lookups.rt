@@ -1,7 +1,9 @@
 #![tactic(auto)]
 // Lookups by a card's first and last MHz and its verdict, beside `gain_lookup` in the same table.
-use crate::example_cards::rhombic;
-use crate::text::{print, print_hundredths, print_narrow, print_number};
+ghost use Rattle.std.specs.Prelude.{◌≤◌};
+
+use crate::example_cards::{DeckAndTable, rhombic};
+use crate::text::InHundredths;
 use antenna::GainEfficiency;
 use refusals::{Refusal, verdict_number};
 use std::io;
@@ -15,6 +17,7 @@ struct CardRange {
     verdict: u32,
 }
 
+// Eight are made below, each in a line.
 fn range_of(first: i32, last: i32, verdict: u32) -> CardRange {
     CardRange {
         first,
@@ -23,30 +26,26 @@ fn range_of(first: i32, last: i32, verdict: u32) -> CardRange {
     }
 }
 
-fn print_answer(rt: &impl Print, number: u32, gain: f32, efficiency: f32) -> io::Result<()> {
-    print_narrow(rt, number)?;
-    print_hundredths(rt, gain)?;
-    print_hundredths(rt, efficiency)
-}
-
-// The number and the values by one match: `verdict_number` would look at the answer once more.
+// Zeros where it is refused. The other programs that print an answer have other columns, so one
+// function for all is no plainer.
 fn print_found(rt: &impl Print, found: Result<GainEfficiency, Refusal>) -> io::Result<()> {
-    match found {
-        Ok(v) => print_answer(rt, 0, v.gain, v.efficiency),
-        Err(refusal) => print_answer(rt, refusal.number(), 0.0, 0.0),
-    }
+    let (gain, efficiency) = found.map_or((0.0, 0.0), |v| (v.gain, v.efficiency));
+    let number = verdict_number(found);
+    print!(rt;
+        "{number:>3}{}{}",
+        InHundredths(gain),
+        InHundredths(efficiency)
+    )
 }
 
 // Minus 0 has the bits 2147483648.
-fn print_bits(rt: &impl Print, x: f32) -> io::Result<()> {
-    print(rt, b" ")?;
-    print_number(rt, vectors::bits(x) as u64)
-}
-
 fn print_bits_of(rt: &impl Print, found: Result<GainEfficiency, Refusal>) -> io::Result<()> {
     if let Ok(v) = found {
-        print_bits(rt, v.gain)?;
-        print_bits(rt, v.efficiency)?;
+        print!(rt;
+            " {} {}",
+            vectors::bits(v.gain),
+            vectors::bits(v.efficiency)
+        )?;
     }
     Ok(())
 }
@@ -59,12 +58,12 @@ fn print_lookup(
     elevation: f32,
 ) -> io::Result<()> {
     let found = antenna::card_lookup(card.first, card.last, card.verdict, table, mhz, elevation);
-    print_hundredths(rt, mhz)?;
+    print!(rt; "{}", InHundredths(mhz))?;
     print_found(rt, found)?;
     print_found(rt, antenna::gain_lookup(table, mhz, elevation))?;
-    print_bits(rt, mhz)?;
+    print!(rt; " {}", vectors::bits(mhz))?;
     print_bits_of(rt, found)?;
-    print(rt, b"\n")
+    println!(rt)
 }
 
 // Around the ends of 2 to 12 MHz, with the f32 below each, and beyond the table.
@@ -94,37 +93,34 @@ fn print_others(rt: &impl Print, table: &[f32]) -> io::Result<()> {
     Ok(())
 }
 
-// Rows 2 and 12 hold minus 0 on the ground and as efficiency.
+// On the ground and as efficiency.
+fn set_minus_zeros(table: &mut Table, mhz: usize)
+    requires { (1 ≤ mhz) × (mhz ≤ 30) }
+{
+    let row = mhz - 1;
+    table[row * COLUMNS] = -0.0;
+    table[row * COLUMNS + 1] = -1.0;
+    table[GAINS + row] = -0.0;
+}
+
 fn print_beside_infinities(rt: &impl Print) -> io::Result<()> {
     let mut table = [f32::INFINITY; TABLE_LENGTH];
-    table[COLUMNS] = -0.0;
-    table[COLUMNS + 1] = -1.0;
-    table[GAINS + 1] = -0.0;
-    table[11 * COLUMNS] = -0.0;
-    table[11 * COLUMNS + 1] = -1.0;
-    table[GAINS + 11] = -0.0;
+    set_minus_zeros(&mut table, 2);
+    set_minus_zeros(&mut table, 12);
     print_range(rt, range_of(2, 12, 0), &table, 0.0)
 }
 
-fn fill(table: &mut [f32]) -> u32 {
-    verdict_number(deck::run_card(deck::fresh(), rhombic(2, 12), table).verdict)
-}
-
-pub(crate) fn print_lookups(rt: &impl Print, table: &mut Table) -> io::Result<()> {
-    print(
-        rt,
-        b"A rhombic of 2 to 12 MHz: MHz; refusal, gain and efficiency by its range, and by gain_lookup; bits\n",
+pub(crate) fn print_lookups(rt: &impl Print) -> io::Result<()> {
+    println!(rt;
+        "A rhombic of 2 to 12 MHz: MHz; refusal, gain and efficiency by its range, and by gain_lookup; bits"
     )?;
-    let verdict = fill(table);
-    print_range(rt, range_of(2, 12, verdict), table, 0.3)?;
-    print(
-        rt,
-        b"Its table by 7 to 7 MHz, by a refused card twice, by 12 to 2, 2 to 31 and 0 to 12 MHz\n",
+    let mut deck = DeckAndTable::fresh();
+    let verdict = verdict_number(deck.run(Some(rhombic(2, 12))));
+    print_range(rt, range_of(2, 12, verdict), &deck.table, 0.3)?;
+    println!(rt;
+        "Its table by 7 to 7 MHz, by a refused card twice, by 12 to 2, 2 to 31 and 0 to 12 MHz"
     )?;
-    print_others(rt, table)?;
-    print(
-        rt,
-        b"Rows 2 and 12 between rows of infinities, on the ground\n",
-    )?;
+    print_others(rt, &deck.table)?;
+    println!(rt; "Rows 2 and 12 between rows of infinities, on the ground")?;
     print_beside_infinities(rt)
 }

@@ -13,14 +13,11 @@ mod tables;
 mod text;
 
 use std::io;
-use table::TABLE_LENGTH;
 
 fn main(rt: HostRuntime) -> io::Result<()> {
-    let mut a = [0.0f32; TABLE_LENGTH];
-    let mut b = [0.0f32; TABLE_LENGTH];
-    removal::print_removals(&rt, &mut a, &mut b)?;
-    elements::print_elements(&rt, &mut a, &mut b)?;
-    listing::print_listings(&rt, &mut a)?;
-    lookups::print_lookups(&rt, &mut a)?;
+    removal::print_removals(&rt)?;
+    elements::print_elements(&rt)?;
+    listing::print_listings(&rt)?;
+    lookups::print_lookups(&rt)?;
     presets::print_presets(&rt)
 }

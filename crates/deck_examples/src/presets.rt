@@ -4,41 +4,36 @@ ghost use Rattle.std.specs.Prelude.{◌≤◌};
 
 use crate::example_cards::{rhombic, run_entry};
 use crate::tables::{BEFORE, count};
-use crate::text::{print, print_hundredths, print_number};
+use crate::text::InHundredths;
 use deck::{CardAnswer, Deck};
 use refusals::verdict_number;
 use std::io;
 use table::TABLE_LENGTH;
 
 fn print_counts_of(rt: &impl Print, deck: Deck) -> io::Result<()> {
-    print(rt, b"counts ")?;
-    print_number(rt, deck.accepted as u64)?;
-    print(rt, b" and ")?;
-    print_number(rt, deck.refused as u64)?;
-    print(rt, b", height ")?;
-    print_hundredths(rt, deck.height)
+    let height = InHundredths(deck.height);
+    print!(rt;
+        "counts {} and {}, height {height}",
+        deck.accepted, deck.refused
+    )
 }
 
 // How many of the table's numbers are 0, and how many are as they were.
 fn print_answer(rt: &impl Print, answer: CardAnswer, table: &[f32]) -> io::Result<()> {
-    print(rt, b"    verdict ")?;
-    print_number(rt, verdict_number(answer.verdict) as u64)?;
-    print(rt, b", ")?;
+    print!(rt; "    verdict {}, ", verdict_number(answer.verdict))?;
     print_counts_of(rt, answer.deck)?;
-    print(rt, b", zeros ")?;
-    print_number(rt, count(table, 0.0))?;
-    print(rt, b", as before ")?;
-    print_number(rt, count(table, BEFORE))?;
-    print(rt, b"\n")
+    println!(rt;
+        ", zeros {}, as before {}",
+        count(table, 0.0),
+        count(table, BEFORE)
+    )
 }
 
 // A card of one row and a malformed line, both on the deck as it is given.
 fn print_both(rt: &impl Print, deck: Deck, table: &mut [f32]) -> io::Result<()> {
-    print(rt, b"  ")?;
+    print!(rt; "  ")?;
     print_counts_of(rt, deck)?;
-    print(rt, b", length ")?;
-    print_number(rt, table.len() as u64)?;
-    print(rt, b"\n")?;
+    println!(rt; ", length {}", table.len())?;
     for card in [Some(rhombic(5, 5)), None] {
         let answer = run_entry(card, deck, table);
         print_answer(rt, answer, table)?;
@@ -93,10 +88,7 @@ fn print_preset(rt: &impl Print, preset: Preset) -> io::Result<()> {
 }
 
 pub(crate) fn print_presets(rt: &impl Print) -> io::Result<()> {
-    print(
-        rt,
-        b"Decks that hold something: a card of one row, and a malformed entry\n",
-    )?;
+    println!(rt; "Decks that hold something: a card of one row, and a malformed entry")?;
     for preset in presets() {
         print_preset(rt, preset)?;
     }

@@ -2,22 +2,23 @@
 // A deck run with and without one of its entries.
 ghost use Rattle.std.specs.Prelude.{◌≤◌, IfOk};
 
-use crate::example_cards::{ENTRIES, entry_card, run_entry};
-use crate::text::{print, print_hundredths, print_number};
-use deck::Deck;
-use std::io;
+use crate::example_cards::{DeckAndTable, ENTRIES, entries};
+use crate::text::InHundredths;
+use std::{fmt, io};
 use table::{COLUMNS, GAINS, TABLE_LENGTH, Table};
 
 // Where a number stands in its table.
-fn print_place(rt: &impl Print, k: usize) -> io::Result<()> {
-    if k < GAINS {
-        print_number(rt, (k / COLUMNS + 1) as u64)?;
-        print(rt, b" MHz, ")?;
-        print_number(rt, (k % COLUMNS) as u64)?;
-        return print(rt, b" degrees");
+#[derive(Clone, Copy)]
+struct Place(usize);
+
+impl fmt::Display for Place {
+    fn fmt<W: fmt::Write>(&self, f: &mut fmt::Formatter<W>) -> fmt::Result {
+        let k = self.0;
+        if k < GAINS {
+            return write!(f, "{} MHz, {} degrees", k / COLUMNS + 1, k % COLUMNS);
+        }
+        write!(f, "{} MHz, efficiency", k - GAINS + 1)
     }
-    print_number(rt, (k - GAINS + 1) as u64)?;
-    print(rt, b" MHz, efficiency")
 }
 
 // Prints each number that differs, and counts them.
@@ -31,102 +32,45 @@ fn print_differences(
 {
     let mut differ: u64 = 0;
     for k in 0..TABLE_LENGTH {
-        if vectors::same(with[k], without[k]) {
+        let x = with[k];
+        let y = without[k];
+        if vectors::same(x, y) {
             continue;
         }
-        print(rt, b"  entry ")?;
-        print_number(rt, entry as u64)?;
-        print(rt, b", ")?;
-        print_place(rt, k)?;
-        print(rt, b":")?;
-        print_hundredths(rt, with[k])?;
-        print(rt, b" and")?;
-        print_hundredths(rt, without[k])?;
-        print(rt, b"\n")?;
+        println!(rt;
+            "  entry {entry}, {}:{} and{}",
+            Place(k),
+            InHundredths(x),
+            InHundredths(y)
+        )?;
         differ += 1;
     }
     Ok(differ)
 }
 
-// Both decks after an entry, and how much of it differs.
-#[derive(Clone, Copy)]
-struct Decks {
-    with: Deck,
-    without: Deck,
-    verdicts: u64,
-    numbers: u64,
-}
-
-// The entry `removed` is run on one deck only.
-fn run_on_both(
-    rt: &impl Print,
-    k: usize,
-    removed: usize,
-    with: Deck,
-    without: Deck,
-    a: &mut Table,
-    b: &mut Table,
-) -> io::Result<Decks>
-    ensures { IfOk result (λ d. (d.verdicts ≤ 1) × (d.numbers ≤ 2760)) }
-{
-    let card = entry_card(k);
-    let one = run_entry(card, with, a);
-    if k == removed {
-        return Ok(Decks {
-            with: one.deck,
-            without,
-            verdicts: 0,
-            numbers: 0,
-        });
-    }
-    let other = run_entry(card, without, b);
-    Ok(Decks {
-        with: one.deck,
-        without: other.deck,
-        verdicts: u64::from(one.verdict != other.verdict),
-        numbers: print_differences(rt, k, a, b)?,
-    })
-}
-
-fn print_counts(rt: &impl Print, verdicts: u64, numbers: u64) -> io::Result<()> {
-    print(rt, b"  verdicts that differ: ")?;
-    print_number(rt, verdicts)?;
-    print(rt, b", numbers: ")?;
-    print_number(rt, numbers)?;
-    print(rt, b"\n")
-}
-
 // Runs all entries, and all but `removed`.
-fn compare_without(
-    rt: &impl Print,
-    removed: usize,
-    a: &mut Table,
-    b: &mut Table,
-) -> io::Result<()> {
-    let mut with = deck::fresh();
-    let mut without = deck::fresh();
+fn compare_without(rt: &impl Print, removed: usize) -> io::Result<()> {
+    let mut with = DeckAndTable::fresh();
+    let mut without = DeckAndTable::fresh();
     let mut verdicts: u64 = 0;
     let mut numbers: u64 = 0;
-    for k in 1..=ENTRIES {
-        let decks = run_on_both(rt, k, removed, with, without, a, b)?;
-        with = decks.with;
-        without = decks.without;
-        verdicts += decks.verdicts;
-        numbers += decks.numbers;
+    for (k, &card) in entries().iter().enumerate() {
+        let entry = k + 1;
+        let verdict = with.run(card);
+        if entry == removed {
+            continue;
+        }
+        verdicts += u64::from(verdict != without.run(card));
+        numbers += print_differences(rt, entry, &with.table, &without.table)?;
     }
-    print_counts(rt, verdicts, numbers)
+    println!(rt; "  verdicts that differ: {verdicts}, numbers: {numbers}")
 }
 
-pub(crate) fn print_removals(rt: &impl Print, a: &mut Table, b: &mut Table) -> io::Result<()> {
-    print(
-        rt,
-        b"A deck of ten entries, with and without one of them, in hundredths of a dB\n",
-    )?;
+pub(crate) fn print_removals(rt: &impl Print) -> io::Result<()> {
+    println!(rt; "A deck of ten entries, with and without one of them, in hundredths of a dB")?;
     for removed in 1..=ENTRIES {
-        print(rt, b"without entry ")?;
-        print_number(rt, removed as u64)?;
-        print(rt, b"\n")?;
-        compare_without(rt, removed, a, b)?;
+        println!(rt; "without entry {removed}")?;
+        compare_without(rt, removed)?;
     }
     Ok(())
 }

@@ -1,6 +1,7 @@
 #![tactic(auto)]
-// Tables compared whole.
-// What a table holds before a card.
+// Tables before and after a card.
+
+// What each number is before a card.
 pub(crate) const BEFORE: f32 = 1.0;
 
 // How many numbers of the table are x.

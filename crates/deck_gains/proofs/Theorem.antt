@@ -14,10 +14,10 @@ use Rattle.limits.specs.Tests.{any_outside}
 use Rattle.antennas.specs.Antenna.{antenna_of}
 use Rattle.std.specs.Prelude.{Option, Some, None, Result}
 use Rattle.refusals.specs.declared.Refusal.{Refusal}
-use Rattle.integrals.specs.Settled.{unsettled_number}
-use Rattle.gain_core.specs.declared.calls.Call.{Call}
+use Rattle.integrals.specs.Settled.{unsettled_number, settled_value}
+use Rattle.integrals.specs.declared.settled.Settled.{Settled}
+use Rattle.gain_core.specs.declared.calls.Answer as Gain
 use Rattle.ioncap.specs.Gain.{call_outside, mhz_outside, call_refusal, call_work, answered, gain_of, gain_number, gain_value, efficiency_value, height_left}
-use Rattle.ioncap.specs.declared.gain.Answer as Gain
 use Rattle.table.specs.Table.{gain_at, efficiency_at}
 use Rattle.independence.specs.Antenna.{Answer}
 use Rattle.independence.specs.Antenna as Antenna
@@ -41,14 +41,14 @@ use Rattle.deck.proofs.Laws.{the_laws, mhz_range}
 use Rattle.deck_gains.specs.CellCalls.{cell_call, IsGainOf, IsAbove, TableOfCalls, TablesOfCalls}
 
 -- ---- what a deck's call and a gain call make of the same work
-record Answers (a : Answer) (w : Option Call) (height : Float) : Type 0 where
+record Answers (a : Answer) (w : Option (Settled Gain.Answer)) (height : Float) : Type 0 where
   number : gain_number (answered w) ≡ 0
   gain : a.gain ≡ gain_value (answered w)
   efficiency : a.efficiency ≡ efficiency_value (answered w)
   left : a.height ≡ height_left (answered w) height
 
-answers : (w : Option Call) (height : Float) → (answer_of w).refusal ≡ 0 → Answers (answer_of w) w height
-unfolding gain_number gain_value efficiency_value height_left unsettled_number
+answers : (w : Option (Settled Gain.Answer)) (height : Float) → (answer_of w).refusal ≡ 0 → Answers (answer_of w) w height
+unfolding gain_number gain_value efficiency_value height_left unsettled_number settled_value
 answers (Some call) height e = record { number = refl; gain = refl; efficiency = refl; left = refl }
 answers None height e = let z : ⊥ = omega arith in absurd z
 

@@ -2,10 +2,10 @@
 use Rattle.std.specs.Prelude.{Bool, Float, Option}
 use Rattle.single.specs.Single.{◌⊞◌, ◌⊟◌, ◌⊠◌, ◌⊘◌, num}
 use Rattle.elementary.specs.Trigonometric.{cosine, tangent}
-use Rattle.elementary.specs.Logarithm.{logarithm}
 use Rattle.integrals.specs.declared.rational.Integrals.{Integrals}
 use Rattle.integrals.specs.Settled.{settled_map}
 use Rattle.integrals.specs.declared.settled.Settled.{Settled}
+use Rattle.integrals.specs.Cin.{cin_of}
 use Rattle.integrals.specs.Pair.{integral_pair, pair_settles}
 use Rattle.dipoles.specs.declared.row.Dipole.{Dipole}
 
@@ -17,12 +17,16 @@ sin2kl = num 1 1
 unfoldable pub cotangent : Float → Float
 cotangent x = num 1 1 ⊘ tangent x
 
+-- Euler's constant, as types 3 and 4 have it
+abbrev pub euler : Float
+euler = num 577 1000
+
 -- xr, from the integrals at fac * 4 and at fac * 2
 unfoldable pub xr_of : Float → Integrals → Integrals → Float
 xr_of fac at2kl atkl =
     let g = cotangent fac in
-    let cin_kl = num 577 1000 ⊞ logarithm (num 2 1 ⊠ fac) ⊟ atkl.ci in
-    let cin_2kl = num 577 1000 ⊞ logarithm (num 4 1 ⊠ fac) ⊟ at2kl.ci in
+    let cin_kl = cin_of euler (num 2 1 ⊠ fac) atkl.ci in
+    let cin_2kl = cin_of euler (num 4 1 ⊠ fac) at2kl.ci in
     num 30 1 ⊠ ((num 1 1 ⊟ g ⊠ g) ⊠ cin_2kl ⊞ num 4 1 ⊠ g ⊠ g ⊠ cin_kl ⊞ num 2 1 ⊠ g ⊠ (at2kl.si ⊟ num 2 1 ⊠ atkl.si)) ⊘ sin2kl
 
 abbrev pub dipole_of : Float → Float → Integrals × Integrals → Dipole

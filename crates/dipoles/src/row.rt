@@ -5,7 +5,7 @@ ghost use Rattle.dipoles.specs.Row.{cotangent, xr_of, dipole_row};
 ghost use Rattle.dipoles.specs.Row.{dipole_settles, zero_dipole};
 ghost use Rattle.integrals.specs.Settled.{unsettled_number, settled_value};
 
-use integrals::{Integrals, Settled, integral_pair};
+use integrals::{Integrals, Settled, cin_of, integral_pair};
 
 // `cfac` is the cosine of the leg's phase `fac`, `scale` is 120 over the resistance `xr`, and
 // `hwave2` twice the height's phase.
@@ -24,13 +24,15 @@ fn cot(x: f32) -> f32
     1.0 / elementary::tan(x)
 }
 
-// `xr`, from the integrals at `fac * 4` and at `fac * 2`. Another constant than resistance's `cin_of`.
+// `xr`, from the integrals at `fac * 4` and at `fac * 2`.
+#[tactic(auto, unfolding(crate::specs::Row::xr_of, single::proofs::Literals::round, single::proofs::Literals::of_bits))]
 fn xr_of(fac: f32, at2kl: Integrals, atkl: Integrals) -> f32
     ensures { result ≡ xr_of fac at2kl atkl }
 {
     let g = cot(fac);
-    let cin_kl = 0.577 + elementary::ln(2.0 * fac) - atkl.ci;
-    let cin_2kl = 0.577 + elementary::ln(4.0 * fac) - at2kl.ci;
+    let euler = 0.577;
+    let cin_kl = cin_of(euler, 2.0 * fac, atkl.ci);
+    let cin_2kl = cin_of(euler, 4.0 * fac, at2kl.ci);
     let sin2kl = 1.0;
     30.0 * ((1.0 - g * g) * cin_2kl + 4.0 * g * g * cin_kl + 2.0 * g * (at2kl.si - 2.0 * atkl.si))
         / sin2kl

@@ -75,6 +75,7 @@ fn answer(function: Function, x: f32) -> u32
 }
 
 // The same, of the function with a number.
+#[tactic(auto, using(crate::proofs::Functions::answer_is))]
 pub fn call(function: u32, x: f32) -> u32
     ensures { result ≡ answer function x }
 {
@@ -92,6 +93,7 @@ pub extern "C" fn elementary_map(function: u32, xs: &[f32], out: &mut [u32]) -> 
         return 7;
     }
     let function = Function::from(function);
+    // By index: with a zip nothing is known of what was written (tried; an adapter of iter_mut).
     for i in 0..xs.len() {
         out[i] = answer(function, xs[i]);
     }

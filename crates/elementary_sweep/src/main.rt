@@ -7,6 +7,7 @@ ghost use Rattle.std.specs.Prelude.{◌≡◌, ◌≤◌, ◌<◌};
 
 use std::env::Env;
 use std::io;
+use std::ops::Range;
 
 // The fold of the answers on the patterns of one block, on from start. The modulus is a prime.
 fn fold_block(function: u32, block: u32, start: u64) -> u64
@@ -21,36 +22,37 @@ fn fold_block(function: u32, block: u32, start: u64) -> u64
     h
 }
 
-// Blocks go by their first and end through the three below: a struct would be taken apart in each.
-fn fold(function: u32, first: u32, end: u32) -> u64
-    requires { end ≤ 65536 }
+fn fold(function: u32, blocks: Range<u32>) -> u64
+    requires { blocks.end ≤ 65536 }
 {
     let mut h: u64 = 0;
-    for block in first..end {
+    for block in blocks {
         h = fold_block(function, block, h);
     }
     h
 }
 
-fn print_group(rt: &impl Print, function: u32, first: u32, end: u32) -> io::Result<()>
-    requires { (first ≤ end) × (end ≤ 65536) }
+fn print_group(rt: &impl Print, function: u32, blocks: Range<u32>) -> io::Result<()>
+    requires { (blocks.start ≤ blocks.end) × (blocks.end ≤ 65536) }
 {
-    let blocks = end - first;
-    let h = fold(function, first, end);
-    println!(rt; "{function:02} {first:05} {blocks:05} {h:08x}")
+    let first = blocks.start;
+    let count = blocks.end - first;
+    let h = fold(function, blocks);
+    println!(rt; "{function:02} {first:05} {count:05} {h:08x}")
 }
 
-fn print_groups(rt: &impl Print, function: u32, first: u32, end: u32, group: u32) -> io::Result<()>
-    requires { (end ≤ 65536) × (group ≤ 65536) × (0 < group) }
+fn print_groups(rt: &impl Print, function: u32, blocks: Range<u32>, group: u32) -> io::Result<()>
+    requires { (blocks.end ≤ 65536) × (group ≤ 65536) × (0 < group) }
 {
-    for from in (first..end).step_by(group as usize) {
-        print_group(rt, function, from, end.min(from + group))?;
+    let Range { start, end } = blocks;
+    for first in (start..end).step_by(group as usize) {
+        print_group(rt, function, first..end.min(first + group))?;
     }
     Ok(())
 }
 
-// A decimal number of at most five digits; any other byte counts as a digit 0. One that is missing
-// or longer is 0.
+// A decimal number of at most five digits. A letter b to f counts as a digit 1 to 5, and any other
+// byte as 0; a word that is missing or longer is 0. `parse` would refuse such words.
 fn number(env: &impl Env, i: usize) -> u32
     ensures { result ≤ 65536 }
 {
@@ -72,7 +74,7 @@ fn main(rt: HostRuntime) -> io::Result<()> {
         return Ok(());
     }
     for function in number(&rt, 1)..=last {
-        print_groups(&rt, function, first, end, group)?;
+        print_groups(&rt, function, first..end, group)?;
     }
     Ok(())
 }

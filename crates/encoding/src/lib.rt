@@ -23,13 +23,16 @@ pub fn bits(x: f32) -> u32
 }
 
 // Its four bytes, the lowest first.
+#[tactic(auto, unfolding(crate::specs::Bytes::bytes_of))]
 pub fn bytes_of(x: f32) -> [u8; 4]
     ensures { result ≡ bytes_of x }
 {
     bits(x).to_le_bytes()
 }
 
-// The f32 of four bytes, the lowest first. Four parameters: a lookup reads them one by one.
+// The f32 of four bytes, the lowest first. Four parameters, as the definition has them: a slice hands
+// them out one by one, and an array of them would say no more.
+#[tactic(auto, unfolding(crate::specs::Bytes::float_of))]
 pub fn float_of(b0: u8, b1: u8, b2: u8, b3: u8) -> f32
     ensures { result ≡ float_of b0 b1 b2 b3 }
 {

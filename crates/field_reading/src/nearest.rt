@@ -5,7 +5,8 @@ ghost use Rattle.std.specs.Float.Ieee.{round};
 ghost use Rattle.field_reading.specs.Decimal.{ten_thousandths};
 ghost use Rattle.field_reading.specs.Nearest.{nearest_whole};
 
-// m / 10000 to the nearest whole number, at a tie the even one.
+// m / 10000 to the nearest whole number, at a tie the even one. By f64 it would be rounded twice,
+// and that this always comes to one rounding would ask a longer proof.
 #[tactic(auto, using(crate::proofs::Round::nearest_found))]
 fn rounded(m: u64) -> u64
     requires { m < 167772160000 }
@@ -33,7 +34,7 @@ fn quotient(n: u64) -> f32
     }
     let mut m = n * 1024;
     let mut k: u32 = 139;
-    // Until m is large enough: no index over anything.
+    // How many doublings there are depends on m; k counts them, down from 139.
     while m < 83_886_080_000 {
         m *= 2;
         k -= 1;

@@ -11,9 +11,11 @@ ghost use Rattle.finish.specs.Finish.{
 
 use parameters::Kind;
 
-// The least gain that is reported, dB.
+// What a sum at or below it becomes, dB, and the efficiency is added to it; type 2 has none.
 pub const FLOOR: f32 = -30.0;
 
+// A lookup's GainEfficiency has these fields too: no crate below both has such a thing, and one for it
+// alone is no plainer.
 #[derive(Clone, Copy)]
 pub struct Finished {
     pub gain: f32,

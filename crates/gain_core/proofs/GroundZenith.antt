@@ -16,12 +16,13 @@ use Rattle.parameters.specs.declared.kind.Kind.{Kind}
 use Rattle.parameters.specs.declared.kind.Kind.TheVariants as K
 use Rattle.angles.specs.Angles.{elevation_of}
 use Rattle.angles.specs.declared.angles.Elevation.{Elevation}
+use Rattle.integrals.specs.Settled.{settled_value}
 use Rattle.integrals.specs.declared.settled.Settled.{Settled}
 use Rattle.finish.specs.Finish.{floor, efficiency_of, floored, ground_of}
 use Rattle.antennas.specs.declared.antenna.Antenna.{Antenna}
 use Rattle.rows.specs.declared.row.Row.{Row}
 use Rattle.cells.specs.Cell.{zenith_gain, blend_of}
-use Rattle.gain_core.specs.Core.{ground_from, work_gain}
+use Rattle.gain_core.specs.Core.{ground_from, refused_at}
 
 abbrev horizon : Elevation
 horizon = elevation_of (cosine (num 0 1)) (sine (num 0 1))
@@ -58,6 +59,6 @@ unfolding ground_of floored efficiency_of add neg round le lt eq
 low kind height t = elim t [ inl p ↦ rw p refl | inr p ↦ rw p refl ]
 
 pub ground_zenith : (antenna : Antenna) (height : Float) (row : Settled Row) → (antenna.kind ≡ K.Dipole) ⊎ (antenna.kind ≡ K.Yagi)
-    → work_gain (ground_from antenna horizon height (Some row)) ≡ cond (finite (zenith_gain row.value)) floor nan
-unfolding blend_of
+    → (settled_value (refused_at height) (ground_from antenna horizon height (Some row))).gain ≡ cond (finite (zenith_gain row.value)) floor nan
+unfolding settled_value blend_of
 ground_zenith antenna height row t = rw (low antenna.kind height t, s_at_0) (blended (zenith_gain row.value))

@@ -20,22 +20,22 @@ use Rattle.antennas.specs.declared.antenna.Antenna.{Antenna}
 use Rattle.patterns.specs.declared.pattern.Pattern.{Pattern}
 use Rattle.patterns.specs.declared.pattern.Pattern.TheVariants as P
 use Rattle.rows.specs.declared.row.Row.{Row}
-use Rattle.integrals.specs.Settled.{unsettled_number}
+use Rattle.integrals.specs.Settled.{at_once, unsettled_number}
 use Rattle.integrals.specs.declared.settled.Settled.{Settled}
 use Rattle.rows.proofs.Height.{Own, OfRow, row_own}
 use Rattle.cells.proofs.Blends.{blends_kind}
 use Rattle.cells.specs.Cell.{blends_with_zenith, cell_by, cell_of, cell_gain, power_cell, curtain_cell}
 use Rattle.gain_core.specs.Core.{above_from, above_ground, ground_from, at_ground, work_of}
-use Rattle.gain_core.specs.declared.calls.Call.{Call}
+use Rattle.gain_core.specs.declared.calls.Answer.{Answer}
 use Rattle.gain_core.proofs.Unsettled.{work_number_lem}
 
 -- of a call whose series settle
-abbrev pub OfCall : (Call → Type 0) → Option Call → Type 0
-OfCall Q (Some call) = Q call
+abbrev pub OfCall : (Answer → Type 0) → Option (Settled Answer) → Type 0
+OfCall Q (Some call) = Q call.value
 OfCall Q None = Unit {0}
 
 -- what holds of the work on every row that is the antenna's own holds of the work on its row
-from_row : (antenna : Antenna) (fmc : Float) (work : Option (Settled Row) → Option Call) (Q : Call → Type 0)
+from_row : (antenna : Antenna) (fmc : Float) (work : Option (Settled Row) → Option (Settled Answer)) (Q : Answer → Type 0)
     → ((row : Settled Row) → Own antenna fmc row.value → OfCall Q (work (Some row))) → OfCall Q (work None) → OfCall Q (work (row_of antenna fmc))
 from_row antenna fmc work Q settled unsettled = go (row_of antenna fmc) (row_own antenna fmc)
   where
@@ -64,12 +64,12 @@ left_above antenna fmc delta e = from_row antenna fmc (above_from antenna delta 
 pub ground_value : (antenna : Antenna) (fmc : Float) (e : Elevation) (height : Float) → blends_with_zenith antenna.kind ≡ false
     → at_ground antenna fmc e height
     ≡ Some
+    (at_once
     (record {
       gain = floor ⊞ efficiency_of antenna.kind height (num 0 1);
       efficiency = efficiency_of antenna.kind height (num 0 1);
       height = height;
-      turns = record { ci = 0; si = 0 };
-    })
+    }))
 unfolding at_ground ground_of
 ground_value antenna fmc e height u = rw (u, ground_gain_lem antenna.kind height) refl
 

@@ -1,16 +1,14 @@
 -- Refusal 11 arises in the work where, and only where, its row's pattern is unsettled (patterns/proofs/Unsettled.antt): above the ground,
 -- and at it for types 3 and 4 alone. Assumes nothing.
-use Rattle.std.specs.Prelude.{◌≡◌, Bool, true, false, ◌⊎◌}
+use Rattle.std.specs.Prelude.{◌≡◌, Bool, true, false}
 use mathlib.Core.Path.{refl, ◌∙◌}
-use mathlib.Core.Logic.{inl, inr}
-use native.Mathlib.Omega.{arith}
 use lib.Ieee.{Float, le}
 use Rattle.single.specs.Single.{num}
 use Rattle.single.specs.Answer.{IsAnswer}
 use Rattle.std.specs.Prelude.{Option, Some, None}
-use Rattle.integrals.specs.Settled.{settled_number, unsettled_number}
+use Rattle.integrals.specs.Settled.{settled_number, unsettled_number, settled_value}
+use Rattle.integrals.proofs.Refusal.{settled_answers}
 use Rattle.integrals.specs.declared.settled.Settled.{Settled}
-use Rattle.single.proofs.Answer.{answers}
 use Rattle.angles.specs.Angles.{wave_of}
 use Rattle.angles.specs.declared.angles.Elevation.{Elevation}
 use Rattle.patterns.specs.Pattern.{pattern_settles}
@@ -18,8 +16,8 @@ use Rattle.antennas.specs.declared.antenna.Antenna.{Antenna}
 use Rattle.rows.specs.declared.row.Row.{Row}
 use Rattle.rows.proofs.Unsettled.{row_number_lem}
 use Rattle.cells.specs.Cell.{blends_with_zenith}
-use Rattle.gain_core.specs.Core.{above_from, above_ground, ground_from, at_ground, work_of, ground_settles, work_settles, work_values, zero_values}
-use Rattle.gain_core.specs.declared.calls.Call.{Call}
+use Rattle.gain_core.specs.Core.{above_from, above_ground, ground_from, at_ground, work_of, ground_settles, work_settles, refused_at}
+use Rattle.gain_core.specs.declared.calls.Answer.{Answer}
 
 of_row_above : (antenna : Antenna) (delta : Float) (e : Elevation) (r : Option (Settled Row))
     → unsettled_number (above_from antenna delta e r) ≡ unsettled_number r
@@ -32,15 +30,6 @@ of_row_ground : (antenna : Antenna) (e : Elevation) (height : Float) (r : Option
 unfolding unsettled_number
 of_row_ground antenna e height (Some row) = refl
 of_row_ground antenna e height None = refl
-
-cases : (a : Option Call) → (unsettled_number a ≡ 0) ⊎ (work_values a ≡ zero_values)
-unfolding unsettled_number
-cases (Some call) = inl refl
-cases None = inr refl
-
-work_answers : (whole : Option Call) (settles : Bool) → unsettled_number whole ≡ settled_number settles
-    → (r : Option Call) → r ≡ whole → IsAnswer unsettled_number work_values zero_values 11 whole settles r
-work_answers = answers unsettled_number work_values zero_values 11 (omega arith) cases
 
 module _ (antenna : Antenna) (fmc : Float) (e : Elevation) where
   pub above_number : (delta : Float) → unsettled_number (above_ground antenna fmc delta e) ≡ settled_number (pattern_settles antenna (wave_of fmc))
@@ -65,6 +54,8 @@ module _ (antenna : Antenna) (fmc : Float) (e : Elevation) where
       go true t = rw t (ground_number height)
       go false t = rw t (above_number delta)
 
-  pub all_answers : (delta height : Float) (r : Option Call) → r ≡ work_of antenna fmc delta e height
-      → IsAnswer unsettled_number work_values zero_values 11 (work_of antenna fmc delta e height) (work_settles antenna fmc delta) r
-  all_answers delta height = work_answers (work_of antenna fmc delta e height) (work_settles antenna fmc delta) (work_number_lem delta height)
+  pub all_answers : (delta height : Float) (r : Option (Settled Answer)) → r ≡ work_of antenna fmc delta e height
+      → IsAnswer unsettled_number (settled_value (refused_at height)) (refused_at height) 11 (work_of antenna fmc delta e height)
+      (work_settles antenna fmc delta) r
+  all_answers delta height =
+      settled_answers (refused_at height) (work_of antenna fmc delta e height) (work_settles antenna fmc delta) (work_number_lem delta height)

@@ -2,4 +2,4 @@
 // `iongain` within the limits, by value.
 mod calls;
 
-pub use calls::{Call, work, zenith_gain_for};
+pub use calls::{Answer, work, zenith_gain_for};

@@ -4,24 +4,20 @@ use Rattle.std.specs.Float.Ieee.{lt, le}
 use Rattle.single.specs.Single.{num}
 use Rattle.refusals.specs.declared.Refusal.{Refusal}
 use Rattle.refusals.specs.Refusals.{answered}
-use Rattle.integrals.specs.Settled.{settled_number, settled_value, settled_both}
+use Rattle.integrals.specs.Settled.{settled_number, settled_value, at_once, settled_both}
 use Rattle.integrals.specs.Series.{ci_series, si_series, ci_settles, si_settles}
 use Rattle.integrals.specs.Rational.{rational_of}
 use Rattle.integrals.specs.declared.series.SeriesSum.{SeriesSum}
 use Rattle.integrals.specs.declared.rational.Integrals.{Integrals}
-use Rattle.integrals.specs.declared.settled.Turns.{Turns}
 use Rattle.integrals.specs.declared.settled.Settled.{Settled}
 
 abbrev pub both_of : SeriesSum → SeriesSum → Settled Integrals
 both_of a b = record { value = record { ci = a.sum; si = b.sum }; turns = record { ci = a.turns; si = b.turns } }
 
-abbrev pub no_turns : Turns
-no_turns = record { ci = 0; si = 0 }
-
 -- series below 1, rational form from 1
 unfoldable pub integrals_of : Float → Option (Settled Integrals)
 integrals_of x =
-    cond (lt x (num 1 1)) (settled_both both_of (ci_series x) (si_series x)) (Some (record { value = rational_of x; turns = no_turns }))
+    cond (lt x (num 1 1)) (settled_both both_of (ci_series x) (si_series x)) (Some (at_once (rational_of x)))
 
 -- the rational form always settles
 unfoldable pub integrals_settle : Float → Bool

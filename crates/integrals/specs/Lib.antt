@@ -3,3 +3,4 @@ pub mod Series
 pub mod Rational
 pub mod Cisi
 pub mod Pair
+pub mod Cin

@@ -16,6 +16,13 @@ unfoldable pub settled_value : {A : Type 0} → A → Option (Settled A) → A
 settled_value zeros (Some s) = s.value
 settled_value zeros None = zeros
 
+abbrev pub no_turns : Turns
+no_turns = record { ci = 0; si = 0 }
+
+-- what takes no series
+abbrev pub at_once : {A : Type 0} → A → Settled A
+at_once a = record { value = a; turns = no_turns }
+
 -- what was computed from it, by no further turns
 abbrev pub with_turns : {A B : Type 0} → Settled A → B → Settled B
 with_turns s b = record { value = b; turns = s.turns }

@@ -28,12 +28,10 @@ pub fn integrals_of(x: f32) -> Option<Settled<Integrals>>
             },
         });
     }
-    Some(Settled {
-        value: rational(x),
-        turns: Turns::NONE,
-    })
+    Some(Settled::at_once(rational(x)))
 }
 
+// The limits by two comparisons, as their definition: a range's `contains` is no plainer.
 pub fn cisi(x: f32) -> Result<Integrals, Refusal>
     ensures { (result ≡ cisi_of x) × (outcome_number result ≡ cisi_number x) × (outcome_values zeros result ≡ cisi_values x) }
 {

@@ -17,6 +17,7 @@ pub struct SeriesSum {
 
 // `first` and the terms from `start` on, until one is small. Requirement D01-F.4 asks for this loop,
 // left by break with the sum and its turns, and so for no `for`.
+#[tactic(auto, unfolding(single::proofs::Literals::round, single::proofs::Literals::of_bits, crate::specs::Series::series_from, crate::specs::Series::series_of))]
 fn sum_series(first: f32, start: f32, from: f32, sq: f32) -> Option<SeriesSum>
     ensures { result ≡ series_of first start from sq }
 {

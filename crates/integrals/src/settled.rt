@@ -1,6 +1,6 @@
 // What comes of the series, with the turns that they took.
 ghost use Rattle.std.specs.Prelude.{◌≡◌};
-ghost use Rattle.integrals.specs.Settled.{larger_turns, with_turns};
+ghost use Rattle.integrals.specs.Settled.{at_once, larger_turns, with_turns};
 
 // The turns of each series.
 #[derive(Clone, Copy)]
@@ -32,6 +32,16 @@ pub struct Settled<T> {
 }
 
 impl<T: Copy> Settled<T> {
+    // What takes no series.
+    pub fn at_once(value: T) -> Settled<T>
+        ensures { result ≡ at_once value }
+    {
+        Settled {
+            value,
+            turns: Turns::NONE,
+        }
+    }
+
     // What was computed from this, by no further turns.
     pub fn with<U>(self, value: U) -> Settled<U>
         ensures { result ≡ with_turns self value }

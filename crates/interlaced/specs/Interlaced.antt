@@ -7,6 +7,7 @@ use Rattle.elementary.specs.Trigonometric.{sine_cosine_of}
 use Rattle.trigonometric.specs.declared.trigonometric.SineCosine.{SineCosine}
 use Rattle.angles.specs.declared.angles.Elevation.{Elevation}
 use Rattle.reflection.specs.declared.ground.Ground.{Ground}
+use Rattle.reflection.specs.Ground.{reflected_of}
 use Rattle.rhombics.specs.declared.legs.Legs.{Legs}
 use Rattle.interlaced.specs.declared.interlaced.Offset.{Offset}
 use Rattle.rhombics.specs.Legs.{elfac_of}
@@ -47,12 +48,12 @@ interlaced_of legs o e earth =
     let elfac2 = elfac ⊠ elfac in
     let y = y_of o e legs.cb in
     let z = z_of o e y in
-    let yh = earth.psih ⊟ num 2 1 ⊠ legs.hwave ⊠ e.q in
-    let yv = earth.psiv ⊟ num 2 1 ⊠ legs.hwave ⊠ e.q in
-    let hk = hk_of earth.ch (sine_cosine_of yh) (sine_cosine_of y) (sine_cosine_of z) in
+    -- of the Rust's yh and yv
+    let images = reflected_of earth.psih earth.psiv (num 2 1 ⊠ legs.hwave) e.q in
+    let hk = hk_of earth.ch images.horizontal (sine_cosine_of y) (sine_cosine_of z) in
     let brk = legs.cb ⊟ legs.srhi ⊠ e.t in
     let hrain = elfac2 ⊠ brk ⊠ brk ⊠ hk in
-    let vk = hk_of earth.cv (sine_cosine_of yv) (sine_cosine_of y) (sine_cosine_of z) in
+    let vk = hk_of earth.cv images.vertical (sine_cosine_of y) (sine_cosine_of z) in
     let brv = legs.sb ⊠ legs.sb ⊠ e.r in
     let vrain = elfac2 ⊠ brv ⊠ vk in
     (hrain ⊞ vrain) ⊠ num 8 10

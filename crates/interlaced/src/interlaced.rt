@@ -4,10 +4,10 @@ ghost use Rattle.interlaced.specs.Interlaced.{offset_of, y_of, hk_of, interlaced
 
 use angles::Elevation;
 use elementary::SineCosine;
-use reflection::Ground;
+use reflection::{Ground, reflected_of};
 use rhombics::{Legs, elfac};
 
-// The second rhombic against the first, at a MHz.
+// The second rhombic against the first, at a MHz. sg and cg are no SineCosine: they are quotients.
 #[derive(Clone, Copy)]
 pub struct Offset {
     pub ss: f32,
@@ -92,13 +92,11 @@ pub fn interlaced_rain(legs: Legs, offset: Offset, e: Elevation, earth: Ground) 
     let z = y - 2.0 * offset.htwave * q;
     let of_y = elementary::sin_cos(y);
     let of_z = elementary::sin_cos(z);
-    // sloping_patterns' reflected_of is the same of a Slope, and neither crate needs the other.
-    let of_yh = elementary::sin_cos(psih - 2.0 * hwave * q);
-    let of_yv = elementary::sin_cos(psiv - 2.0 * hwave * q);
-    let hk = hk_of(ch, of_yh, of_y, of_z);
+    let images = reflected_of(psih, psiv, 2.0 * hwave, q);
+    let hk = hk_of(ch, images.horizontal, of_y, of_z);
     let brk = cb - srhi * t;
     let hrain = elfac2 * brk * brk * hk;
-    let vk = hk_of(cv, of_yv, of_y, of_z);
+    let vk = hk_of(cv, images.vertical, of_y, of_z);
     let brv = sb * sb * r;
     let vrain = elfac2 * brv * vk;
     (hrain + vrain) * 0.8

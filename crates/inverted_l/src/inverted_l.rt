@@ -11,7 +11,8 @@ use reflection::{Ground, with_image};
 use resistance::resistance_of;
 
 // What a row's cells take: the phases of the leg, twice over, and of the height; cosine and sine of
-// the first and of their sum; the radiation resistance. Beside these the efficiency in dB.
+// the first and of their sum, by the Rust's names; the radiation resistance. Beside these the
+// efficiency in dB.
 #[derive(Clone, Copy)]
 pub struct InvertedL {
     pub fac2: f32,
@@ -85,6 +86,7 @@ fn bprim_of(a: f32, b: f32) -> f32
 }
 
 // The mast's part.
+#[tactic(auto, unfolding(single::proofs::Literals::round, single::proofs::Literals::of_bits, crate::specs::InvertedL::f1_of))]
 fn f1(row: InvertedL, elevation: Elevation, earth: Ground) -> f32
     ensures { result ≡ f1_of row elevation earth }
 {
@@ -104,6 +106,7 @@ fn f1(row: InvertedL, elevation: Elevation, earth: Ground) -> f32
     (a * a + b * b) * power / (t * t)
 }
 
+#[tactic(auto, unfolding(single::proofs::Literals::round, single::proofs::Literals::of_bits, crate::specs::InvertedL::inverted_l_rain))]
 pub fn inverted_l_rain(row: InvertedL, azimuth: Azimuth, elevation: Elevation, earth: Ground) -> f32
     ensures { result ≡ inverted_l_rain row azimuth elevation earth }
 {

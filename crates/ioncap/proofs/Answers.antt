@@ -7,25 +7,26 @@ use borrow.Author.Tests.{ne_eqb}
 use lib.Ieee.{Float}
 use Rattle.std.specs.Prelude.{false, eqb, Option, Some, None, Result, Ok, Err, ok_or}
 use Rattle.limits.proofs.None.{any_holds, zero_none}
-use Rattle.integrals.specs.Settled.{unsettled_number}
+use Rattle.integrals.specs.Settled.{unsettled_number, settled_value}
+use Rattle.integrals.specs.declared.settled.Settled.{Settled}
 use Rattle.refusals.specs.Refusals.{IsJudged, number_of}
 use Rattle.refusals.specs.declared.Refusal.{Refusal}
 use Rattle.refusals.specs.declared.Refusal.TheVariants as R
 use Rattle.refusals.proofs.Refusals.{accepted, refused, number_positive, refusal_of_number}
-use Rattle.gain_core.specs.declared.calls.Call.{Call}
-use Rattle.gain_core.specs.Core.{work_gain, work_efficiency, work_height}
+use Rattle.gain_core.specs.declared.calls.Answer.{Answer}
+use Rattle.gain_core.specs.Core.{refused_at}
 use Rattle.ioncap.specs.Gain.{call_tests, call_refusal, call_work, answered, gain_of, gain_number, gain_value, efficiency_value, height_left}
 use Rattle.ioncap.specs.Gain.{call_number, call_gain, call_efficiency, call_height}
 use Rattle.ioncap.specs.declared.gain.GainCall.{GainCall}
-use Rattle.ioncap.specs.declared.gain.Answer.{Answer}
 
 abbrev Means : ℕ → Float → Float → Float → Float → Result Answer Refusal → Type 0
 Means number gain efficiency left height r =
     (gain_number r ≡ number) × (gain_value r ≡ gain) × (efficiency_value r ≡ efficiency) × (height_left r height ≡ left)
 
 -- of an accepted call the work's, of a refused one the refusal's
-worked : (w : Option Call) (height : Float) → Means (unsettled_number w) (work_gain w) (work_efficiency w) (work_height w height) height (answered w)
-unfolding unsettled_number gain_number gain_value efficiency_value height_left
+worked : (w : Option (Settled Answer)) (height : Float)
+    → let a = settled_value (refused_at height) w in Means (unsettled_number w) a.gain a.efficiency a.height height (answered w)
+unfolding unsettled_number settled_value gain_number gain_value efficiency_value height_left
 worked (Some call) height = (refl, refl, refl, refl)
 worked None height = (refl, refl, refl, refl)
 
@@ -47,13 +48,12 @@ module _ (call : GainCall) (height : Float) {verdict : Result (Unit {0}) Refusal
   worked_answers r v is = let m = worked (call_work call height) height in rw (is, accepted judged v) (refl, m.0, m.1, m.2, m.3)
 
 -- what the work's number becomes: 11 of one that settles not
-pub worked_err : (w : Option Call) {e : Refusal} → ok_or w R.Unsettled ≡ Err e → Err e ≡ answered w
+pub worked_err : (w : Option (Settled Answer)) {e : Refusal} → ok_or w R.Unsettled ≡ Err e → Err e ≡ answered w
 worked_err (Some call) h = absurd (cc)
 worked_err None {e} h = let i : R.Unsettled ≡ e = cc in rw (← i)
 
-pub worked_ok : (w : Option Call) {call : Call} → ok_or w R.Unsettled ≡ Ok call
-    → Ok (record { gain = call.gain; efficiency = call.efficiency; height = call.height }) ≡ answered w
-worked_ok (Some made) {call} h = let e : made ≡ call = cc in rw e
+pub worked_ok : (w : Option (Settled Answer)) {work : Settled Answer} → ok_or w R.Unsettled ≡ Ok work → Ok work.value ≡ answered w
+worked_ok (Some made) {work} h = let e : made ≡ work = cc in rw e
 worked_ok None h = absurd (cc)
 
 -- 0 exactly where none of the listed conditions holds

@@ -8,14 +8,14 @@ use Rattle.limits.specs.Refusals.{Test, first_refusal}
 use Rattle.limits.specs.Tests.{any_outside, height_test, input_tests}
 use Rattle.parameters.specs.Kind.{kind_of}
 use Rattle.antennas.specs.Antenna.{antenna_of}
-use Rattle.gain_core.specs.Core.{work_of, work_gain, work_efficiency, work_height}
-use Rattle.gain_core.specs.declared.calls.Call.{Call}
-use Rattle.integrals.specs.Settled.{unsettled_number}
+use Rattle.gain_core.specs.Core.{work_of, refused_at}
+use Rattle.gain_core.specs.declared.calls.Answer.{Answer}
+use Rattle.integrals.specs.Settled.{unsettled_number, settled_value}
+use Rattle.integrals.specs.declared.settled.Settled.{Settled}
 use Rattle.refusals.specs.Refusals.{refusal_of, outcome_number}
 use Rattle.refusals.specs.declared.Refusal.{Refusal}
 use Rattle.refusals.specs.declared.Refusal.TheVariants as R
 use Rattle.ioncap.specs.declared.gain.GainCall.{GainCall}
-use Rattle.ioncap.specs.declared.gain.Answer.{Answer}
 
 -- refusal 2: the azimuth, the nine parameter fields, the elevation and the MHz
 unfoldable pub call_outside : GainCall → Bool
@@ -37,14 +37,14 @@ unfolding first_refusal
 call_refusal call height = first_refusal (call_tests call height)
 
 -- the work on a call within the limits
-unfoldable pub call_work : GainCall → Float → Option Call
+unfoldable pub call_work : GainCall → Float → Option (Settled Answer)
 call_work call height =
     work_of (antenna_of (kind_of call.kop) call.toaz call.params call.model) call.fmc call.delta
     (elevation_of (cosine call.delta) (sine call.delta)) height
 
 -- 11 arises in the work
-abbrev pub answered : Option Call → Result Answer Refusal
-answered (Some call) = Ok (record { gain = call.gain; efficiency = call.efficiency; height = call.height })
+abbrev pub answered : Option (Settled Answer) → Result Answer Refusal
+answered (Some work) = Ok work.value
 answered None = Err R.Unsettled
 
 unfoldable pub gain_of : GainCall → Float → Result Answer Refusal
@@ -68,16 +68,20 @@ unfoldable pub height_left : Result Answer Refusal → Float → Float
 height_left (Ok answer) height = answer.height
 height_left (Err refusal) height = height
 
+-- what the work leaves of a call within the limits
+abbrev pub call_values : GainCall → Float → Answer
+call_values call height = settled_value (refused_at height) (call_work call height)
+
 -- what a call answers by these: the first refusal, else the work's own; a refused call answers zeros and keeps the height
 unfoldable pub call_number : GainCall → Float → ℕ
 call_number call height =
     let refusal = call_refusal call height in cond (eqb refusal 0) (unsettled_number (call_work call height)) refusal
 
 unfoldable pub call_gain : GainCall → Float → Float
-call_gain call height = cond (eqb (call_refusal call height) 0) (work_gain (call_work call height)) (num 0 1)
+call_gain call height = cond (eqb (call_refusal call height) 0) (call_values call height).gain (num 0 1)
 
 unfoldable pub call_efficiency : GainCall → Float → Float
-call_efficiency call height = cond (eqb (call_refusal call height) 0) (work_efficiency (call_work call height)) (num 0 1)
+call_efficiency call height = cond (eqb (call_refusal call height) 0) (call_values call height).efficiency (num 0 1)
 
 unfoldable pub call_height : GainCall → Float → Float
-call_height call height = cond (eqb (call_refusal call height) 0) (work_height (call_work call height) height) height
+call_height call height = cond (eqb (call_refusal call height) 0) (call_values call height).height height

@@ -6,7 +6,7 @@ ghost use Rattle.ioncap.specs.Gain.{gain_number, gain_value, efficiency_value, h
 ghost use Rattle.ioncap.specs.Gain.{call_number, call_gain, call_efficiency, call_height};
 
 use elementary::SineCosine;
-use gain_core::work;
+use gain_core::{Answer, work};
 use parameters::{IoncapParams, Kind, Model};
 use refusals::Refusal;
 
@@ -20,14 +20,6 @@ pub struct GainCall {
     pub delta: f32,
     pub fmc: f32,
     pub model: Model,
-}
-
-// `height` is the one left.
-#[derive(Clone, Copy)]
-pub struct Answer {
-    pub gain: f32,
-    pub efficiency: f32,
-    pub height: f32,
 }
 
 // All that is handed in, used by the type or not.
@@ -54,6 +46,7 @@ fn call_outside(call: GainCall) -> bool
     limits::any_outside(&numbers) || limits::any_outside(&aex)
 }
 
+// By two comparisons, as its definition: a range's `contains` is no plainer.
 #[tactic(auto, unfolding(crate::specs::Gain::mhz_outside, single::proofs::Literals::round, single::proofs::Literals::of_bits))]
 fn mhz_outside(fmc: f32) -> bool
     ensures { result ≡ mhz_outside fmc }
@@ -91,12 +84,8 @@ pub fn gain_of(call: GainCall, height: f32) -> Result<Answer, Refusal>
     let antenna = antennas::antenna_of(Kind::from(kop), toaz, params, model);
     let SineCosine { sine, cosine } = elementary::sin_cos(delta);
     let e = angles::elevation_of(cosine, sine);
-    let call = work(antenna, fmc, delta, e, height).ok_or(Refusal::Unsettled)?;
-    Ok(Answer {
-        gain: call.gain,
-        efficiency: call.efficiency,
-        height: call.height,
-    })
+    let worked = work(antenna, fmc, delta, e, height).ok_or(Refusal::Unsettled)?;
+    Ok(worked.value)
 }
 
 // A refusal keeps the height.
@@ -104,8 +93,5 @@ pub fn gain_of(call: GainCall, height: f32) -> Result<Answer, Refusal>
 pub fn height_left(answer: Result<Answer, Refusal>, height: f32) -> f32
     ensures { result ≡ height_left answer height }
 {
-    match answer {
-        Ok(answer) => answer.height,
-        Err(_) => height,
-    }
+    answer.map_or(height, |a| a.height)
 }

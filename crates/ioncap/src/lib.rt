@@ -2,4 +2,5 @@
 // The gain call with its refusals, by value.
 mod gain;
 
-pub use gain::{Answer, GainCall, gain_of, height_left};
+pub use gain::{GainCall, gain_of, height_left};
+pub use gain_core::Answer;

@@ -43,6 +43,7 @@ pub fn read_length(v: f32) -> Length
 }
 
 // Type 2's `anh` stays a gain in the parameters: no length is read from it.
+#[tactic(auto, unfolding(single::proofs::Literals::round, single::proofs::Literals::of_bits, crate::specs::Length::height_slot_of))]
 pub fn read_height(kind: Kind, anh: f32) -> Length
     ensures { result ≡ height_slot_of kind anh }
 {

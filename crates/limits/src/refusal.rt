@@ -39,6 +39,7 @@ pub fn length_refusal(height: f32) -> Refusal
 }
 
 // The numbers and the MHz are judged by the caller, whose own they are.
+#[tactic(auto, unfolding(single::proofs::Literals::of_bits, single::proofs::Literals::round, crate::specs::Refusals::first_refusal, crate::specs::Tests::input_refusal), using(refusals::proofs::Refusals::is_judged))]
 pub fn input_refusal(
     kop: i32,
     outside: bool,

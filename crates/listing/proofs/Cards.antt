@@ -12,7 +12,7 @@ use lib.ListN.{replicate}
 use Rattle.output.specs.Field.{integer_field}
 use Rattle.output.proofs.Field.{stars}
 use Rattle.deck_state.specs.declared.Deck as D
-use Rattle.deck.specs.Run.{state_of}
+use Rattle.deck.specs.Run.{state_of, line_in}
 use Rattle.cards.specs.declared.fields.Fields.{Fields}
 use Rattle.std.proofs.Common.{Option}
 use Rattle.card_line.specs.Line.{line_of}
@@ -20,9 +20,10 @@ use Rattle.listing.specs.declared.session.Session as S
 use Rattle.listing.specs.declared.writing.Writer.{Writer}
 use Rattle.listing.specs.Written.{Written}
 use Rattle.listing.specs.Text.{line_feed, heading_text}
-use Rattle.listing.specs.Listing.{line_in, type_of, rows_by, entry_of, card_text}
+use Rattle.listing.specs.Listing.{type_of, rows_by, entry_of, card_text}
 use Rattle.listing.specs.Session.{counted, line_text, after_line}
-use Rattle.listing.specs.Card.{LineRun, LineListed}
+use Rattle.listing.specs.Card.{LineListed}
+use Rattle.listing.proofs.Entries.{LineRun}
 use Rattle.listing.proofs.Buffer.{after, renamed}
 use Rattle.listing.proofs.Printed.{heading_length}
 

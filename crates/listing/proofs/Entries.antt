@@ -19,7 +19,7 @@ use Rattle.independence.proofs.Rows.{cleared_length}
 use Rattle.independence.proofs.Verdicts.{accepted_passes}
 use Rattle.cards.specs.Card.{card_of}
 use Rattle.deck.specs.Antenna.{the_antenna}
-use Rattle.deck.specs.Run.{count_limit}
+use Rattle.deck.specs.Run.{count_limit, line_in, line_entry}
 use Rattle.deck.proofs.Laws.{the_laws}
 use Rattle.deck.proofs.CardRows.{Rows, rows_of}
 use Rattle.cards.specs.declared.fields.Fields.{Fields}
@@ -32,8 +32,7 @@ use Rattle.refusals.proofs.Refusals.{number_positive}
 use Rattle.listing.specs.declared.writing.Writer.{Writer}
 use Rattle.listing.specs.Written.{Written}
 use Rattle.listing.specs.Text.{rows_text}
-use Rattle.listing.specs.Listing.{line_in, card_rows, rows_by}
-use Rattle.listing.specs.Card.{LineRun}
+use Rattle.listing.specs.Listing.{card_rows, rows_by}
 use Rattle.listing.proofs.Buffer.{renamed, no_text}
 
 -- ---- a table of 2,760 numbers is as good as any other
@@ -73,10 +72,13 @@ module _ (d : Deck) (l : Line the_antenna) (t : List Float) (h : length t ≡ 27
         deck = x.deck ∙ deck_by_lem (verdict_on the_antenna count_limit d given) ∙ ap (deck_by the_antenna count_limit empty d) verdict_same;
       }
 
--- ---- a line as it was read
-pub line_run : (d : Deck) (l : Option Fields) (x : Line the_antenna) (t t' : List Float) (v : ℕ) (d' : Deck) → length t ≡ 2760 → line_in l ≡ x
-    → EntryDone the_antenna count_limit d (record { line = x; table = t }) t' v d' → LineRun d l t' v d'
-line_run d l y t t' v d' h e x = rw e (entry_same d y t h t' v d' x)
+-- ---- a line as it was read, on the deck d
+abbrev pub LineRun : Deck → Option Fields → List Float → ℕ → Deck → Type 0
+LineRun d l t v d' = EntryDone the_antenna count_limit d (line_entry l cleared) t v d'
+
+pub line_run : (d : Deck) (l : Option Fields) (t t' : List Float) (v : ℕ) (d' : Deck) → length t ≡ 2760
+    → EntryDone the_antenna count_limit d (line_entry l t) t' v d' → LineRun d l t' v d'
+line_run d l t t' v d' h x = entry_same d (line_in l) t h t' v d' x
 
 pub accepted : (d : Deck) (l : Option Fields) (f : Fields) (t' : List Float) (v : ℕ) (d' : Deck)
     → LineRun d l t' v d' → l ≡ Some f → v ≡ 0 → fields_refusal f ≡ 0
@@ -117,12 +119,11 @@ pub rows_in : (f : Fields) → fields_refusal f ≡ 0 → Rows (card_of f) f
 rows_in f p = rows_of (card_of f) f refl p
 
 pub accepted_rows : (f : Fields) (t : List Float) (w w' : Writer) → fields_refusal f ≡ 0
-    → Written w (rows_text t (back f.first) (back f.last - back f.first + 1)) w' → Written w (card_rows f t) w'
+    → Written w (rows_text t (back f.first) (back f.last + 1 - back f.first)) w' → Written w (card_rows f t) w'
 unfolding card_of
 accepted_rows f t w w' p y =
     let r = rows_in f p in
     let first : back f.first ≡ nat_abs f.first = r.first in
     let last : back f.last ≡ nat_abs f.last = r.last in
-    let order : back f.first ≤ back f.last = r.order in
-    let n : back f.last - back f.first + 1 ≡ suc (nat_abs f.last) - nat_abs f.first = omega arith in
-    renamed y (ap (λ (m : ℕ). rows_text t m (back f.last - back f.first + 1)) first ∙ ap (rows_text t (nat_abs f.first)) n)
+    let n : back f.last + 1 - back f.first ≡ suc (nat_abs f.last) - nat_abs f.first = omega arith in
+    renamed y (ap (λ (m : ℕ). rows_text t m (back f.last + 1 - back f.first)) first ∙ ap (rows_text t (nat_abs f.first)) n)

@@ -89,5 +89,8 @@ rows_step {t} {first} {m = m} h r x =
     let i : m ≡ first + (m - first) = omega arith in
     record { text = rw e (after r.text (renamed x (ap (row_text t) i))) }
 
-pub rows_end : {t : List Float} {first : ℕ} (k : ℕ) {w w' : Writer} {m : ℕ} → Rows t first w w' m → m ≡ first + k → Written w (rows_text t first k) w'
-rows_end {t} {first} k {m = m} r e = let q : m - first ≡ k = omega arith in renamed r.text (ap (rows_text t first) q)
+pub rows_last : {t : List Float} {first last : ℕ} {w w' w'' : Writer} {m : ℕ} → first ≤ m → m ≤ last → last ≤ m
+    → Rows t first w w' m → Written w' (row_text t m) w'' → Written w (rows_text t first (last + 1 - first)) w''
+rows_last {t} {first} {last} {m = m} h low high r x =
+    let q : m + 1 - first ≡ last + 1 - first = omega arith in
+    renamed (rows_step h r x).text (ap (rows_text t first) q)

@@ -1,13 +1,14 @@
 -- When the buffers of a call are ready. Assumes nothing.
-use mathlib.Core.Path.{◌≡◌, refl}
-use mathlib.Core.Bool.{true, false, ◌&&◌}
+use mathlib.Core.Path.{◌≡◌, refl, sym, ◌∙◌}
+use mathlib.Core.Bool.{Bool, true, ◌&&◌}
 use mathlib.Core.List.{List}
 use Prim.Native.Nat.{ℕ, ◌+◌}
 use borrow.Author.Tests.{eq-eqb, eqb-true, leb-true, le-leb}
 use lib.Dec.{eqb, leb}
 use lib.Ieee.{Float}
 use lib.ListN.{length}
-use Rattle.std.proofs.lemmas.Bool.{false_from_ne_true}
+use Rattle.std.specs.Prelude.{Option, Some, None}
+use Rattle.std.specs.Option.{MatchOption, IsSome}
 use Rattle.single.proofs.Booleans.{and_left, and_right}
 use Rattle.table.specs.Table.{is_table}
 use Rattle.listing.specs.Ready.{Ready}
@@ -28,5 +29,10 @@ pub ready_from : (line : List ℕ) (table : List Float) (out : List ℕ) (at : �
 unfolding is_ready is_table
 ready_from line table out at r = rw (eq-eqb (length line) 120 r.line_length, eq-eqb (length table) 2760 r.table_len, le-leb (at + 569) (length out) r.room) refl
 
-pub not_ready : (line : List ℕ) (table : List Float) (out : List ℕ) (at : ℕ) → (Ready line table out at → ⊥) → is_ready line table out at ≡ false
-not_ready line table out at n = false_from_ne_true (is_ready line table out at) (λ e. n (ready line table out at e))
+-- as the code tests it
+pub tested : {b : Bool} (line : List ℕ) (table : List Float) (out : List ℕ) (at : ℕ) → b ≡ is_ready line table out at → b ≡ true → Ready line table out at
+tested line table out at e t = ready line table out at (sym e ∙ t)
+
+pub is_there : {X : Type 0} (o : Option X) (P : Type 0) (Q : X → Type 0) → MatchOption o P Q → (P → ⊥) → IsSome o
+is_there (Some x) P Q m none = refl
+is_there None P Q m none = absurd (none m)

@@ -1,6 +1,7 @@
 -- The calls that read in pieces keep their contracts. Assumes nothing.
 use mathlib.Core.Path.{◌≡◌, refl, sym, ap, subst, ◌∙◌}
 use mathlib.Core.List.{List, [], ◌∷◌, ◌++◌}
+use mathlib.Core.Bool.{false}
 use Prim.Native.Nat.{ℕ, min, ◌+◌, ◌-◌, ◌≤◌}
 use native.Mathlib.Omega.{arith}
 use lib.Ieee.{Float}
@@ -8,22 +9,23 @@ use lib.ListN.{length, take, drop, length-drop, take-append-drop}
 use lib.Seq.{length-take-le}
 use Rattle.listing.specs.declared.session.Session as S
 use Rattle.listing.specs.declared.session.Stepped as D
-use Rattle.listing.specs.declared.gathering.Gathered as G
-use Rattle.std.proofs.Common.{Some, None}
+use Rattle.listing.specs.declared.gathering.Gatherer.{Gatherer}
+use Rattle.std.proofs.Common.{Option, Some, None}
 use Rattle.std.specs.Option.{is_some}
 use Rattle.listing.specs.declared.writing.Writer.{Writer}
 use Rattle.listing.specs.Appended.{Appended, overwritten}
 use Rattle.listing.specs.Written.{Written}
 use Rattle.listing.specs.Text.{counts_text}
-use Rattle.listing.specs.Session.{State, state_in, Gathered, line_text, after_line, step_by, step_of, last_text, end_by, counts, finish_text, finish_table}
-use Rattle.listing.specs.Gathering.{used_of, GatherDone}
+use Rattle.listing.specs.Session.{State, state_in, Gathered, gathered, line_text, after_line, step_by, step_of, last_text, end_by, counts}
+use Rattle.listing.specs.Session.{finish_text, finish_table, is_ready}
+use Rattle.listing.specs.Gathering.{used_of, held_of, GatherDone}
 use Rattle.listing.specs.Card.{LineListed}
 use Rattle.listing.specs.Ready.{Ready}
 use Rattle.listing.specs.Steps.{StepDone, FinishDone, stepped_of, step_in, held_after}
 use Rattle.listing.proofs.Buffer.{unchanged, nothing, after, renamed}
 use Rattle.listing.proofs.Pieces.{held_all}
 use Rattle.listing.proofs.Progress.{parts_by}
-use Rattle.listing.proofs.Ready.{ready_from, not_ready}
+use Rattle.listing.proofs.Ready.{ready_from}
 
 module _ (s : S.Session) (line : List ℕ) (table : List Float) (out : List ℕ) (at : ℕ) where
   -- the parts of a step's answer are all of it
@@ -35,11 +37,10 @@ module _ (s : S.Session) (line : List ℕ) (table : List Float) (out : List ℕ)
       let used : r.used ≡ length piece - length step.rest = omega (arith, sym (length-drop r.used piece) ∙ ap length d) in
       rw (← ap (λ (t : State). t.deck) i, ← ap (λ (t : State). t.listed) i, ← h, ← used, ← n)
 
-  pub step_idle : (piece : List ℕ) → (Ready line table out at → ⊥)
+  pub step_idle : (piece : List ℕ) → is_ready line table out at ≡ false
       → StepDone s line piece table out at line table out (record { session = s; used = 0; at = at })
   unfolding step_of
-  step_idle piece none =
-      let n = not_ready line table out at none in
+  step_idle piece n =
       let end : at ≡ at + 0 = omega arith in
       let r : D.Stepped = record { session = s; used = 0; at = at } in
       record {
@@ -54,29 +55,37 @@ module _ (s : S.Session) (line : List ℕ) (table : List Float) (out : List ℕ)
         fits = λ h. h;
       }
 
-  module _ (piece line' : List ℕ) (g : G.Gathered) (e : Ready line table out at) (x : GatherDone s.held line piece line' g) (l : length line' ≡ 120) where
+  module _ (piece : List ℕ) (g g' : Gatherer) (stop : Option ℕ) (e : Ready line table out at) (b : g.line.now ≡ line) (p : g.held ≡ min s.held 120)
+      (x : GatherDone g piece g' stop) where
+    abbrev line' : List ℕ
+    line' = g'.line.now
+
     abbrev found : Gathered
-    found = record { whole = is_some g.end; held = take g.held line'; rest = drop (used_of piece g.end) piece }
+    found = record { whole = is_some stop; held = held_of g'; rest = drop (used_of piece stop) piece }
 
-    held_length : length (take g.held line') ≡ g.held
-    held_length = length-take-le g.held line' (omega (arith, x.low, l))
+    gathered_is : gathered (take s.held line) piece ≡ found
+    gathered_is = ap (λ (q : List ℕ). gathered q piece) (sym ((λ i. take (p i) (b i)) ∙ held_all s.held line e.line_length)) ∙ x.result
 
-    buffer_is : line' ≡ overwritten line 0 (take g.held line')
+    held_length : length (held_of g') ≡ g'.held
+    held_length = length-take-le g'.held line' (omega (arith, x.held_within.1, x.held_within.0))
+
+    buffer_is : line' ≡ overwritten line 0 (held_of g')
     unfolding overwritten
     buffer_is =
-        let z : g.held ≡ 0 + length (take g.held line') = omega (arith, held_length) in
-        sym (take-append-drop g.held line') ∙ ap (λ (p : List ℕ). take g.held line' ++ p) (x.kept ∙ ap (λ (k : ℕ). drop k line) z)
+        let z : g'.held ≡ 0 + length (held_of g') = omega (arith, held_length) in
+        sym (take-append-drop g'.held line')
+        ∙ ap (λ (q : List ℕ). held_of g' ++ q) (x.kept ∙ ap (drop g'.held) b ∙ ap (λ (k : ℕ). drop k line) z)
 
     -- the step by what was gathered: its state, what it holds, and its text
     step_by_lem : (table' : List Float) (out' : List ℕ) (c : S.Session) (r : ℕ) → let t = step_by (state_in s line table) found in
         state_in c line' table' ≡ t.state → c.held ≡ length t.state.held → Appended out at t.text out' r
-        → StepDone s line piece table out at line' table' out' (record { session = c; used = used_of piece g.end; at = r })
+        → StepDone s line piece table out at line' table' out' (record { session = c; used = used_of piece stop; at = r })
     unfolding step_of
     step_by_lem table' out' c end i h y =
         let r = ready_from line table out at e in
-        let d = x.result in
+        let d = gathered_is in
         let k = parts_by (state_in s line table) found in
-        let r' : D.Stepped = record { session = c; used = used_of piece g.end; at = end } in
+        let r' : D.Stepped = record { session = c; used = used_of piece stop; at = end } in
         record {
           answer = answer_is piece line' table' r' (rw (r, d) i) (rw (r, d) h) (rw (r, d) (sym k.1)) x.within (rw (r, d) y.end);
           state = rw (r, d) i;
@@ -89,29 +98,30 @@ module _ (s : S.Session) (line : List ℕ) (table : List Float) (out : List ℕ)
           fits = λ l. omega (arith, y.end, y.fits);
         }
 
-    pub step_part : g.end ≡ None
-        → StepDone s line piece table out at line' table out
-        (record { session = record { deck = s.deck; listed = s.listed; held = g.held }; used = length piece; at = at })
-    step_part p =
-        let c : S.Session = record { deck = s.deck; listed = s.listed; held = g.held } in
-        subst (λ (u : ℕ). StepDone s line piece table out at line' table out (record { session = c; used = u; at = at })) (ap (used_of piece) p)
-        (step_by_lem table out c at (rw p refl) (rw p (sym held_length)) (rw p (nothing out at (omega (arith, e.room)))))
+    pub step_part : (line'' : List ℕ) → stop ≡ None → line'' ≡ line'
+        → StepDone s line piece table out at line'' table out
+        (record { session = record { deck = s.deck; listed = s.listed; held = g'.held }; used = length piece; at = at })
+    step_part line'' q l =
+        let c : S.Session = record { deck = s.deck; listed = s.listed; held = g'.held } in
+        rw l
+        (subst (λ (u : ℕ). StepDone s line piece table out at line' table out (record { session = c; used = u; at = at })) (ap (used_of piece) q)
+        (step_by_lem table out c at (rw q refl) (rw q (sym held_length)) (rw q (nothing out at (omega (arith, e.room))))))
 
     pub step_whole : (line'' : List ℕ) (table' : List Float) (out' : List ℕ) (w w' : Writer) (c : S.Session) (used : ℕ)
-        → g.end ≡ Some used → w.out.now ≡ out → w.at ≡ at → LineListed s (take g.held line') table table' w w' c → line'' ≡ line' → out' ≡ w'.out.now
+        → stop ≡ Some used → w.out.now ≡ out → w.at ≡ at → LineListed s (take g'.held line'') table table' w w' c → line'' ≡ line' → out' ≡ w'.out.now
         → StepDone s line piece table out at line'' table' out' (record { session = c; used = used; at = w'.at })
     unfolding after_line line_text
-    step_whole line'' table' out' w w' c used p o f y b d =
-        let z : Appended out at (line_text (state_in s line table) (take g.held line')) w'.out.now w'.at = (rw (o, f) at (y.text line).text) in
-        rw (b, d)
-        (subst (λ (u : ℕ). StepDone s line piece table out at line' table' w'.out.now (record { session = c; used = u; at = w'.at })) (ap (used_of piece) p)
-        (step_by_lem table' w'.out.now c w'.at (rw p (y.state line')) (rw p y.held) (rw p z)))
+    step_whole line'' table' out' w w' c used q o f y l d =
+        let y' : LineListed s (held_of g') table table' w w' c = (rw l at y) in
+        let z : Appended out at (line_text (state_in s line table) (held_of g')) w'.out.now w'.at = (rw (o, f) at (y'.text line).text) in
+        rw (l, d)
+        (subst (λ (u : ℕ). StepDone s line piece table out at line' table' w'.out.now (record { session = c; used = u; at = w'.at })) (ap (used_of piece) q)
+        (step_by_lem table' w'.out.now c w'.at (rw q (y'.state line')) (rw q y'.held) (rw q z)))
 
   -- ---- the end of the input
-  pub finish_idle : (Ready line table out at → ⊥) → FinishDone s line table out at table out at
+  pub finish_idle : is_ready line table out at ≡ false → FinishDone s line table out at table out at
   unfolding finish_text finish_table
-  finish_idle none =
-      let n = not_ready line table out at none in
+  finish_idle n =
       let end : at ≡ at + 0 = omega arith in
       record { table_left = rw n refl; text = rw n (unchanged out at); end = rw n end; fits = λ h. h }
 

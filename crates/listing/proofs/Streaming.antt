@@ -12,14 +12,14 @@ use lib.Seq.{take_at, drop_at, length-take-le}
 use Rattle.table.specs.Table.{cleared}
 use Rattle.independence.specs.Deck.{Deck, Entry, fresh, outcome_on, deck_after}
 use Rattle.deck.specs.Antenna.{the_antenna}
-use Rattle.deck.specs.Run.{count_limit, state_of}
+use Rattle.deck.specs.Run.{count_limit, state_of, line_entry}
 use Rattle.cards.specs.declared.fields.Fields.{Fields}
 use Rattle.std.proofs.Common.{Option}
 use Rattle.card_line.proofs.Laws.{wrong_length}
 use Rattle.listing.specs.declared.session.Session as S
 use Rattle.listing.specs.Lines.{lines_of, on_first}
 use Rattle.listing.specs.Text.{heading_text}
-use Rattle.listing.specs.Listing.{line_in, type_of, rows_by, entry_of, card_text, texts_of, listing}
+use Rattle.listing.specs.Listing.{type_of, rows_by, entry_of, card_text, texts_of, listing}
 use Rattle.listing.specs.Session.{State, state_in, start_of, is_ready, grown, Gathered, gathered, counted, line_text, after_line}
 use Rattle.listing.specs.Session.{step_by, step_of, end_by, last_text, counts, finish_text, ended, joined, remaining}
 use Rattle.listing.specs.Appended.{overwritten}
@@ -83,7 +83,7 @@ joined_byte p bs b e = rw e (on_first_lem p b (lines_of bs))
 over_entry : (p q : List ℕ) → 120 ≤ length p → 120 ≤ length q → entry_of p ≡ entry_of q
 unfolding entry_of
 over_entry p q h k =
-    ap (λ (l : Option Fields). record { line = line_in l; table = cleared })
+    ap (λ (l : Option Fields). line_entry l cleared)
     (wrong_length p (λ (e : length p ≡ 119). let w : ⊥ = omega arith in w) ∙ sym (wrong_length q (λ (e : length q ≡ 119). let w : ⊥ = omega arith in w)))
 
 by_entry : (n : ℕ) (d : Deck) (p q : List ℕ) (ls : List (List ℕ)) → entry_of p ≡ entry_of q → texts_of n d (p ∷ ls) ≡ texts_of n d (q ∷ ls)

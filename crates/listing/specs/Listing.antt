@@ -1,22 +1,18 @@
 -- Document 01 section 10: the whole listing, from the bytes of the input to the bytes of the output. Definitions only.
-use Rattle.std.specs.Prelude.{ℕ, zero, suc, List, [], ◌∷◌, ◌++◌, ℤ, pos, Float, Option, Some, None}
+use Rattle.std.specs.Prelude.{ℕ, zero, suc, List, [], ◌∷◌, ◌++◌, ℤ, pos, Float}
 use Rattle.table.specs.Table.{cleared}
 use Rattle.independence.specs.Filling.{rows_of}
 use Rattle.independence.specs.Deck.{Deck, Line, card, malformed, Entry, Outcome, fresh, outcome_on, deck_after}
 use Rattle.deck.specs.Antenna.{the_antenna}
-use Rattle.deck.specs.Run.{count_limit}
+use Rattle.deck.specs.Run.{count_limit, line_entry}
 use Rattle.cards.specs.declared.fields.Fields.{Fields}
 use Rattle.card_line.specs.Line.{line_of}
 use Rattle.listing.specs.Lines.{lines_of}
 use Rattle.listing.specs.Text.{heading_text, rows_text, counts_text}
 
 -- ---- a line as an entry of the deck, with a table of 2,760 numbers
-abbrev pub line_in : Option Fields → Line the_antenna
-line_in (Some f) = card f
-line_in None = malformed
-
 unfoldable pub entry_of : List ℕ → Entry the_antenna
-entry_of l = record { line = line_in (line_of l); table = cleared }
+entry_of l = line_entry (line_of l) cleared
 
 -- ---- a card's text. "Type: 0 if malformed"
 abbrev pub type_of : Line the_antenna → ℤ

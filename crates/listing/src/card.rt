@@ -1,20 +1,16 @@
 // A line run on the deck, and its text.
 ghost use Rattle.std.specs.Prelude.{◌≡◌, ◌+◌, ◌≤◌};
-ghost use Rattle.refusals.specs.Refusals.{outcome_number};
-ghost use Rattle.independence.specs.Filling.{rows_of};
 ghost use Rattle.cards.specs.Fields.{fields_refusal};
-ghost use Rattle.deck.specs.Antenna.{the_antenna};
-ghost use Rattle.deck.specs.Run.{state_of};
-ghost use Rattle.listing.specs.Text.{rows_text};
+ghost use Rattle.deck.specs.Run.{line_in};
 ghost use Rattle.listing.specs.Written.{HasRoom, Written};
-ghost use Rattle.listing.specs.Listing.{line_in, type_of, card_rows};
+ghost use Rattle.listing.specs.Listing.{type_of, card_rows};
 ghost use Rattle.listing.specs.Session.{counted};
-ghost use Rattle.listing.specs.Card.{LineRun, LineListed};
+ghost use Rattle.listing.specs.Card.{LineListed};
 
 use crate::session::Session;
 use crate::writing::Writer;
 use cards::Fields;
-use deck::{CardAnswer, Deck};
+use deck::CardAnswer;
 use table::Table;
 
 // From here on a place prints as stars.
@@ -32,15 +28,6 @@ fn count(listed: u32) -> u32
     }
 }
 
-fn run_line(deck: Deck, line: Option<Fields>, table: &mut Table) -> CardAnswer
-    ensures { LineRun (state_of deck) line table.new (outcome_number result.verdict) (state_of result.deck) }
-{
-    match line {
-        Some(fields) => deck::run_card(deck, fields, table),
-        None => deck::run_malformed(deck, table),
-    }
-}
-
 fn card_type(line: Option<Fields>) -> i32
     ensures { result ≡ type_of (line_in line) }
 {
@@ -54,9 +41,9 @@ fn rows(fields: Fields, table: &Table, to: &mut Writer)
     ensures written { Written to.old (card_rows fields table.now) to.new }
     ensures upper_bound { to.new.at ≤ to.old.at + 540 }
 {
-    let from = fields.first as usize;
-    let count = fields.last as usize - from + 1;
-    to.rows(table, from, count);
+    let first = fields.first as usize;
+    let last = fields.last as usize;
+    to.rows(table, first, last);
 }
 
 #[tactic(auto, using(crate::proofs::Printed::heading_length))]
@@ -71,7 +58,7 @@ pub(crate) fn list_line(
 {
     let listed = count(session.listed);
     let card = card_line::read_line(line);
-    let CardAnswer { deck, verdict } = run_line(session.deck, card, table);
+    let CardAnswer { deck, verdict } = deck::run_entry(session.deck, card, table);
     let number = refusals::verdict_number(verdict);
     to.heading(listed, card_type(card), number);
     // A refused card has no rows.

@@ -1,8 +1,7 @@
 // The bytes of a line, gathered in a buffer of 120.
-ghost use Rattle.std.specs.Prelude.{◌≡◌, ◌≤◌, take, drop, min};
+ghost use Rattle.std.specs.Prelude.{◌≡◌, min};
 ghost use Rattle.listing.specs.Sizes.{most_held};
-ghost use Rattle.listing.specs.Session.{grown};
-ghost use Rattle.listing.specs.Gathering.{GatherDone};
+ghost use Rattle.listing.specs.Gathering.{IsWithin, Pushed, GatherDone};
 
 // A line of more than 119 bytes is malformed, so no more than these are held.
 pub const MOST_HELD: usize = 120;
@@ -12,11 +11,11 @@ const LINE_FEED: u8 = b'\n';
 // Lent by the caller: no memory of its own. How many of its first bytes are held is the session's.
 pub(crate) type LineBuffer = [u8; MOST_HELD];
 
-// `end`: where the piece's first line ends, after its line feed, if it ends in the piece.
-#[derive(Clone, Copy)]
-pub(crate) struct Gathered {
+// The first `held` bytes of `line` are held.
+#[derive(Drop)]
+pub(crate) struct Gatherer<'a> {
+    pub line: &'a mut LineBuffer,
     pub held: usize,
-    pub end: Option<usize>,
 }
 
 // A session that was made otherwise may say that it holds more than there is.
@@ -26,34 +25,30 @@ pub(crate) fn held_in(held: usize) -> usize
     held.min(MOST_HELD)
 }
 
-fn push(line: &mut LineBuffer, held: usize, b: u8) -> usize
-    requires { held ≤ most_held }
-    ensures { (take result line.new ≡ grown (take held line.old) b) × (result ≤ most_held) × (held ≤ result)
-        × (drop result line.new ≡ drop result line.old) }
-{
-    if held < MOST_HELD {
-        line[held] = b;
-        return held + 1;
-    }
-    held
-}
-
-// Bytes of the piece up to a line feed or its end.
-pub(crate) fn gather(line: &mut LineBuffer, held: usize, piece: &[u8]) -> Gathered
-    ensures { GatherDone held line.old piece.now line.new result }
-{
-    let mut len = held_in(held);
-    for i in 0..piece.len() {
-        if piece[i] == LINE_FEED {
-            return Gathered {
-                held: len,
-                end: Some(i + 1),
-            };
+impl Gatherer<'_> {
+    fn push(&mut self, b: u8)
+        requires { IsWithin self.old }
+        ensures { Pushed self.old b self.new }
+    {
+        if self.held < MOST_HELD {
+            self.line[self.held] = b;
+            self.held += 1;
         }
-        len = push(line, len, piece[i]);
     }
-    Gathered {
-        held: len,
-        end: None,
+
+    // Takes bytes of the piece up to a line feed or its end. Answers where the piece's first line ends,
+    // after its line feed, if it ends in the piece.
+    #[tactic(auto, using(crate::proofs::Pieces::gather_start, crate::proofs::Pieces::gather_feed, crate::proofs::Pieces::gather_step, crate::proofs::Pieces::gather_end))]
+    pub(crate) fn gather(&mut self, piece: &[u8]) -> Option<usize>
+        requires { IsWithin self.old }
+        ensures { GatherDone self.old piece.now self.new result }
+    {
+        for (i, b) in piece.iter().enumerate() {
+            if *b == LINE_FEED {
+                return Some(i + 1);
+            }
+            self.push(*b);
+        }
+        None
     }
 }

@@ -1,11 +1,10 @@
 // The listing of an input that comes in pieces of any size.
-ghost use Rattle.std.specs.Prelude.{◌≡◌, ◌+◌, ◌≤◌, ◌↔◌, length, IsTrue};
-ghost use Rattle.listing.specs.Sizes.{most_text};
-ghost use Rattle.listing.specs.Session.{start_of};
+ghost use Rattle.std.specs.Prelude.{◌≡◌};
+ghost use Rattle.listing.specs.Session.{start_of, is_ready};
 ghost use Rattle.listing.specs.Steps.{StepDone, FinishDone};
 
 use crate::card::list_line;
-use crate::gathering::{Gathered, MOST_HELD, gather, held_in};
+use crate::gathering::{Gatherer, MOST_HELD, held_in};
 use crate::writing::Writer;
 use deck::Deck;
 use table::TABLE_LENGTH;
@@ -39,10 +38,13 @@ pub fn start() -> Session
     }
 }
 
-fn has_room(out: &[u8], at: usize) -> bool
-    ensures { IsTrue result ↔ (at + most_text ≤ length out.now) }
+// The lengths, and room for the longest text. Each call then takes the arrays itself, which are there:
+// `step` writes its line, and `finish` only reads it.
+#[tactic(auto, unfolding(crate::specs::Session::is_ready))]
+fn is_ready(line: &[u8], table: &[f32], out: &[u8], at: usize) -> bool
+    ensures { result ≡ is_ready line.now table.now out.now at }
 {
-    out.len() >= ROOM && at <= out.len() - ROOM
+    line.len() == MOST_HELD && table::is_table(table) && out.len() >= ROOM && at <= out.len() - ROOM
 }
 
 // At most one line of the piece is taken, run and written. Nothing is where the buffers
@@ -55,24 +57,23 @@ pub fn step(
     out: &mut [u8],
     at: usize,
 ) -> Stepped
-    ensures { StepDone session line.old piece.now table.old out.old at
-        line.new table.new out.new result }
+    ensures { StepDone session line.old piece.now table.old out.old at line.new table.new out.new result }
 {
-    let idle = Stepped {
-        session,
-        used: 0,
-        at,
-    };
-    if !has_room(out, at) {
-        return idle;
+    if !is_ready(line, table, out, at) {
+        return Stepped {
+            session,
+            used: 0,
+            at,
+        };
     }
-    let Some(buffer) = line.as_mut_array::<MOST_HELD>() else {
-        return idle;
+    let buffer = line.as_mut_array::<MOST_HELD>().unwrap();
+    let cells = table.as_mut_array::<TABLE_LENGTH>().unwrap();
+    let mut gatherer = Gatherer {
+        line: buffer,
+        held: held_in(session.held),
     };
-    let Some(cells) = table.as_mut_array::<TABLE_LENGTH>() else {
-        return idle;
-    };
-    let Gathered { held, end } = gather(buffer, session.held, piece);
+    let end = gatherer.gather(piece);
+    let held = gatherer.held;
     let Some(used) = end else {
         return Stepped {
             session: Session { held, ..session },
@@ -94,22 +95,18 @@ pub fn step(
 pub fn finish(session: Session, line: &[u8], table: &mut [f32], out: &mut [u8], at: usize) -> usize
     ensures { FinishDone session line.now table.old out.old at table.new out.new result }
 {
-    if !has_room(out, at) {
+    if !is_ready(line, table, out, at) {
         return at;
     }
-    let Some(buffer) = line.as_array::<MOST_HELD>() else {
-        return at;
-    };
-    let Some(cells) = table.as_mut_array::<TABLE_LENGTH>() else {
-        return at;
-    };
+    let buffer = line.as_array::<MOST_HELD>().unwrap();
+    let cells = table.as_mut_array::<TABLE_LENGTH>().unwrap();
     let held = held_in(session.held);
     let mut to = Writer { out, at };
     if held == 0 {
-        to.counts(session.deck.accepted, session.deck.refused);
+        to.counts(session.deck);
         return to.at;
     }
     let last = list_line(session, &buffer[..held], cells, &mut to);
-    to.counts(last.deck.accepted, last.deck.refused);
+    to.counts(last.deck);
     to.at
 }

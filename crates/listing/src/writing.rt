@@ -1,11 +1,12 @@
 // The printed lines, each written into a buffer.
-ghost use Rattle.std.specs.Prelude.{◌≡◌, ◌+◌, ◌≤◌};
+ghost use Rattle.std.specs.Prelude.{◌≡◌, ◌+◌, ◌-◌, ◌≤◌};
 ghost use Rattle.table.specs.Table.{row_count};
 ghost use Rattle.output.specs.Field.{integer_field};
 ghost use Rattle.output.specs.Hundredths.{hundredths_field};
 ghost use Rattle.listing.specs.Written.{HasRoom, Written};
 ghost use Rattle.listing.specs.Text.{line_feed, heading_text, row_text, rows_text, counts_text};
 
+use deck::Deck;
 use table::{COLUMNS, GAINS, Table};
 
 // The next byte is written at `at`.
@@ -16,6 +17,7 @@ pub(crate) struct Writer<'a> {
 }
 
 impl Writer<'_> {
+    #[tactic(auto, using(output::proofs::Field::field_length, crate::proofs::Buffer::field, crate::proofs::Printed::handed))]
     fn integer(&mut self, v: i64, width: usize)
         requires { HasRoom self.old width }
         ensures { Written self.old (integer_field v width) self.new }
@@ -25,6 +27,7 @@ impl Writer<'_> {
         self.at = end;
     }
 
+    #[tactic(auto, using(output::proofs::Printed::hundredths_field_length, crate::proofs::Buffer::field))]
     fn hundredths(&mut self, x: f32, width: usize)
         requires { HasRoom self.old width }
         ensures { Written self.old (hundredths_field x width) self.new }
@@ -34,6 +37,7 @@ impl Writer<'_> {
         self.at = end;
     }
 
+    #[tactic(auto, using(crate::proofs::Buffer::one_byte))]
     fn line_feed(&mut self)
         requires { HasRoom self.old 1 }
         ensures { Written self.old line_feed self.new }
@@ -68,23 +72,23 @@ impl Writer<'_> {
         self.line_feed();
     }
 
-    // From `first` MHz on.
-    pub(crate) fn rows(&mut self, table: &Table, first: usize, count: usize)
-        requires { (1 ≤ first) × (first + count ≤ 31) × HasRoom self.old 540 }
-        ensures { Written self.old (rows_text table.now first count) self.new }
+    // From `first` to `last` MHz.
+    pub(crate) fn rows(&mut self, table: &Table, first: usize, last: usize)
+        requires { (1 ≤ first) × (first ≤ last) × (last ≤ row_count) × HasRoom self.old 540 }
+        ensures { Written self.old (rows_text table.now first (last + 1 - first)) self.new }
     {
-        for m in first..first + count {
+        for m in first..=last {
             self.row(table, m);
         }
     }
 
     #[tactic(auto, using(output::proofs::Field::field_length))]
-    pub(crate) fn counts(&mut self, accepted: u32, refused: u32)
+    pub(crate) fn counts(&mut self, deck: Deck)
         requires { HasRoom self.old 15 }
-        ensures { Written self.old (counts_text accepted refused) self.new }
+        ensures { Written self.old (counts_text deck.accepted deck.refused) self.new }
     {
-        self.integer(accepted as i64, 7);
-        self.integer(refused as i64, 7);
+        self.integer(deck.accepted as i64, 7);
+        self.integer(deck.refused as i64, 7);
         self.line_feed();
     }
 }

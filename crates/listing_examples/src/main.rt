@@ -14,14 +14,13 @@ const TEXT: usize = 4096;
 // A deck that has refused so many cards.
 fn session_after(refused: u32) -> Session {
     let deck = Deck {
-        height: 0.0,
-        accepted: 0,
         refused,
+        ..deck::fresh()
     };
     Session {
         deck,
         listed: refused,
-        held: 0,
+        ..listing::start()
     }
 }
 
@@ -33,25 +32,29 @@ fn list(to: Stdout, start: Session, input: &[u8], size: usize) -> Result<()> {
     printing::print_listing(to, start, input, size, &mut line, &mut table, &mut out)
 }
 
+fn list_in_pieces(to: Stdout, cards: &[u8]) -> Result<()> {
+    for size in [1, 50, 4096] {
+        list(to, listing::start(), cards, size)?;
+    }
+    Ok(())
+}
+
+fn list_after_refusals(to: Stdout, cards: &[u8]) -> Result<()> {
+    for refused in [999_998, 999_999, 9_999_999] {
+        list(to, session_after(refused), cards, 50)?;
+    }
+    Ok(())
+}
+
 fn list_all(to: Stdout, cards: &[u8]) -> Result<()> {
-    printing::print(to, b"no input\n")?;
+    println!(to; "no input")?;
     list(to, listing::start(), b"", 1)?;
-    printing::print(to, b"two line feeds, then a byte\n")?;
+    println!(to; "two line feeds, then a byte")?;
     list(to, listing::start(), b"\n\nx", 1)?;
-    printing::print(
-        to,
-        b"two cards, the last without its line feed, in pieces of 1, 50 and 4,096 bytes\n",
-    )?;
-    list(to, listing::start(), cards, 1)?;
-    list(to, listing::start(), cards, 50)?;
-    list(to, listing::start(), cards, 4096)?;
-    printing::print(
-        to,
-        b"after 999,998 and 999,999 refused cards, and 9,999,999\n",
-    )?;
-    list(to, session_after(999998), cards, 50)?;
-    list(to, session_after(999999), cards, 50)?;
-    list(to, session_after(9999999), cards, 50)
+    println!(to; "two cards, the last without its line feed, in pieces of 1, 50 and 4,096 bytes")?;
+    list_in_pieces(to, cards)?;
+    println!(to; "after 999,998 and 999,999 refused cards, and 9,999,999")?;
+    list_after_refusals(to, cards)
 }
 
 fn main(rt: HostRuntime) -> Result<()> {

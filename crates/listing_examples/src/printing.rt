@@ -4,10 +4,6 @@ ghost use Rattle.std.specs.Prelude.{◌≤◌};
 use listing::Session;
 use std::io::{Result, Stdout, Write};
 
-pub(crate) fn print(mut to: Stdout, text: &[u8]) -> Result<()> {
-    to.write_all(text)
-}
-
 // Where the piece of `size` bytes from `from` on ends.
 fn piece_end(from: usize, size: usize, len: usize) -> usize
     requires { from ≤ len }
@@ -17,13 +13,15 @@ fn piece_end(from: usize, size: usize, len: usize) -> usize
 }
 
 fn print_start(mut to: Stdout, out: &[u8], end: usize) -> Result<()> {
-    if end <= out.len() {
-        to.write_all(&out[..end])?;
+    if let Some(text) = out.get(..end) {
+        to.write_all(text)?;
     }
     Ok(())
 }
 
-// Each step takes a byte at least, so there are no more steps than bytes.
+// Each step takes a byte at least until the input is used up, so as many steps as bytes suffice. The
+// buffers are the caller's, as those of `step` and `finish` are.
+#[tactic(auto, using(crate::proofs::Loop::within_input))]
 pub(crate) fn print_listing(
     to: Stdout,
     start: Session,

@@ -23,6 +23,7 @@ fn ln_at(m: f32, e: f32) -> f32
 }
 
 // a - b, as a float: the difference is exact.
+#[tactic(auto, using(single::proofs::Difference::int_difference))]
 fn exponent(a: u32, b: u32) -> f32
     requires { (a < 1000) × (b < 1000) }
     ensures { result ≡ of_int binary32 (minus a b) }
@@ -45,6 +46,7 @@ fn split(b: u32, bias: u32) -> Digits
     Digits { m, e }
 }
 
+#[tactic(auto, unfolding(crate::specs::Logarithm::ln_at))]
 fn ln_normal(b: u32, bias: u32) -> f32
     requires { (8388608 ≤ b) × (b < 2139095040) × (bias < 500) }
     ensures { result ≡ ln_from (normal_units b) (bias + 23) }
@@ -54,6 +56,7 @@ fn ln_normal(b: u32, bias: u32) -> f32
     ln_at(d.m, e)
 }
 
+#[tactic(auto, unfolding(single::proofs::Literals::of_bits, crate::specs::Logarithm::logarithm), using(single::proofs::Positive::positive_no_nan, single::proofs::Positive::subnormal, single::proofs::Positive::on_normal, single::proofs::Positive::on_top, single::proofs::Positive::on_zero, single::proofs::Positive::on_other, crate::proofs::Digits::scaled))]
 pub fn ln(y: f32) -> f32
     ensures { result ≡ logarithm y }
 {
@@ -75,6 +78,7 @@ pub fn ln(y: f32) -> f32
     }
 }
 
+#[tactic(auto, unfolding(crate::specs::Logarithm::logarithm10, single::proofs::Literals::round, single::proofs::Literals::of_bits))]
 pub fn log10(y: f32) -> f32
     ensures { result ≡ logarithm10 y }
 {

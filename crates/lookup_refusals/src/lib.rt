@@ -27,8 +27,10 @@ pub fn lookup_refusal(table: &[f32], fmc: f32, delta: f32) -> Result<(), Refusal
     refusal_by_length(table::is_table(table), fmc, delta)
 }
 
-// A refused card's first and last MHz are not looked at. The verdict is a number still: a caller may
-// hold any, and a narrower type would ask more of it.
+// A refused card's first and last MHz are not looked at. They and the verdict are numbers still: a
+// caller may hold any, and a narrower type would ask more of it; a struct of the three would be made
+// only to be handed on.
+#[tactic(auto, using(refusals::proofs::Refusals::is_judged, refusals::proofs::Refusals::accepted, refusals::proofs::Refusals::refused, refusals::proofs::Refusals::number_positive, crate::proofs::Accepted::card_refused, crate::proofs::Accepted::card_by_range))]
 pub fn card_refusal(
     first: i32,
     last: i32,

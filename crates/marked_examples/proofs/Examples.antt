@@ -17,14 +17,14 @@ use Rattle.finish.specs.Finish.{monopole_efficiency, efficiency_of, floored, gro
 use Rattle.curtain.specs.Floor.{takes_pattern}
 use Rattle.curtain.specs.Gain.{rain_of, sok_of}
 use Rattle.curtain.specs.Cell as Curtain
-use Rattle.patterns.specs.Pattern.{settled_at, pattern_of}
+use Rattle.patterns.specs.Pattern.{pattern_of}
 use Rattle.antennas.specs.Antenna.{antenna_of}
 use Rattle.rows.specs.Row.{sok_for, height_for, eff8_for, row_of}
 use Rattle.cells.specs.Cell.{blends_with_zenith, curtain_cell, cell_of, cell_gain}
 use Rattle.gain_core.specs.Core.{above_ground, at_ground, work_of}
 use Rattle.ioncap.specs.Gain.{call_outside, mhz_outside, call_refusal, call_work, gain_of}
 use Rattle.std.specs.Prelude.{Result, Ok, Err}
-use Rattle.ioncap.specs.declared.gain.Answer.{Answer}
+use Rattle.gain_core.specs.declared.calls.Answer.{Answer}
 use Rattle.refusals.specs.Refusals.{number_of, refusal_of}
 use Rattle.refusals.specs.declared.Refusal.{Refusal}
 use Rattle.refusals.proofs.Refusals.{refusal_of_number}
@@ -42,7 +42,7 @@ use Rattle.marked_examples.specs.Examples.{same, same_gain, same_cone, same_look
 -- the test
 pub marked_examples_hold : T all_hold
 unfolding all_hold all holds table same same_gain same_cone same_lookup same_bytes gain_of call_refusal call_outside mhz_outside call_work work_of
-    at_ground above_ground blends_with_zenith cell_gain cell_of curtain_cell antenna_of sok_for height_for eff8_for row_of pattern_of settled_at
+    at_ground above_ground blends_with_zenith cell_gain cell_of curtain_cell antenna_of sok_for height_for eff8_for row_of pattern_of
     Curtain.cell_of rain_of sok_of takes_pattern floored efficiency_of monopole_efficiency ground_of curtain_elevation_threshold is_type kind_of first_refusal
     is_ioncap_type outside any_outside too_many_bays absolute cut_toward is_table clamped next_of place_of Table.row_of Table.blended lookup_refusal
     gain_lookup_of cone_freqs cone_elevs cone upper_from upper_of interp_of weight_of cone_at cone_value invcon_number invcon_of integer_field justified

@@ -7,7 +7,7 @@ use Rattle.single.specs.Single.{◌⊞◌, num}
 use Rattle.parameters.specs.declared.model.Model.TheVariants.{Compatible}
 use Rattle.ioncap.specs.Gain.{gain_of}
 use Rattle.ioncap.specs.declared.gain.GainCall.{GainCall}
-use Rattle.ioncap.specs.declared.gain.Answer.{Answer}
+use Rattle.gain_core.specs.declared.calls.Answer.{Answer}
 use Rattle.refusals.specs.Refusals.{number_of}
 use Rattle.refusals.specs.declared.Refusal.{Refusal}
 use Rattle.refusals.specs.declared.Refusal.TheVariants as R

@@ -4,6 +4,7 @@
 ghost use Rattle.std.specs.Prelude.{◌+◌, ◌≤◌};
 
 use parameters::{Fixes, Model};
+use std::array;
 
 // Of a line of `deck`, the longest.
 pub(crate) const MOST_BYTES: usize = 830;
@@ -56,15 +57,19 @@ pub(crate) fn is(line: &Line, k: usize, x: f32) -> bool
     is_at(line, k * 9 + 2, x)
 }
 
+// The k-th number as a length, at most `most`.
+pub(crate) fn length(line: &Line, k: usize, most: usize) -> usize
+    requires { k ≤ 91 }
+    ensures { result ≤ most }
+{
+    (word(line, k) as usize).min(most)
+}
+
 // The 20 slots of a card, from the number `first` on.
 pub(crate) fn slots(line: &Line, first: usize) -> [f32; 20]
     requires { first ≤ 72 }
 {
-    let mut slots = [0.0f32; 20];
-    for k in 0..20 {
-        slots[k] = float(line, first + k);
-    }
-    slots
+    array::from_fn(|k| float(line, first + k))
 }
 
 // By the number that a list has: the fixes that it stands for are its own.

@@ -1,9 +1,10 @@
 // The list `antenna`: lookups in seeded tables, and the inverted cone.
 ghost use Rattle.std.specs.Prelude.{◌<◌, ◌≤◌};
 
-use crate::line::{Line, float, is, word};
+use crate::line::{Line, float, is, length, word};
 use antenna::GainEfficiency;
-use refusals::Refusal;
+use refusals::{Refusal, verdict_number};
+use std::array;
 use table::{COLUMNS, TABLE_LENGTH};
 
 // One more than a table has, for the lines with a wrong length.
@@ -48,17 +49,7 @@ fn seeded_table(seed: u32) -> [f32; CELLS] {
     if seed == 0 {
         return example_table();
     }
-    let mut table = [0.0f32; CELLS];
-    for k in 0..CELLS {
-        table[k] = cell(seed, k as u32);
-    }
-    table
-}
-
-fn table_length(line: &Line) -> usize
-    ensures { result ≤ 2761 }
-{
-    (word(line, 1) as usize).min(CELLS)
+    array::from_fn(|k| cell(seed, k as u32))
 }
 
 fn lookup(line: &Line, table: &[f32]) -> Result<GainEfficiency, Refusal> {
@@ -75,21 +66,16 @@ fn lookup(line: &Line, table: &[f32]) -> Result<GainEfficiency, Refusal> {
     )
 }
 
-// The refusal as the number that the list has.
-fn is_answer(line: &Line, refusal: u32, gain: f32, efficiency: f32) -> bool {
-    (word(line, 7) == refusal) & is(line, 8, gain) & is(line, 9, efficiency)
-}
-
+// A refusal as the number that the list has, with zeros; in list_gains the same, at other columns.
 fn is_outcome(line: &Line, found: Result<GainEfficiency, Refusal>) -> bool {
-    match found {
-        Ok(v) => is_answer(line, 0, v.gain, v.efficiency),
-        Err(refusal) => is_answer(line, refusal.number(), 0.0, 0.0),
-    }
+    let (gain, efficiency) = found.map_or((0.0, 0.0), |v| (v.gain, v.efficiency));
+    (word(line, 7) == verdict_number(found)) & is(line, 8, gain) & is(line, 9, efficiency)
 }
 
 fn is_lookup(line: &Line) -> bool {
     let table = seeded_table(word(line, 0));
-    is_outcome(line, lookup(line, &table[..table_length(line)]))
+    let n = length(line, 1, table.len());
+    is_outcome(line, lookup(line, &table[..n]))
 }
 
 // The cone has no efficiency.

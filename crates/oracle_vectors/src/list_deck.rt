@@ -1,9 +1,11 @@
 // The list `deck`: entries run in turn on one deck, and the rows that an accepted card fills.
 ghost use Rattle.std.specs.Prelude.{◌<◌, ◌≤◌};
 
-use crate::line::{Line, float, is, model, slots, word};
+use crate::line::{Line, float, is, length, model, slots, word};
 use cards::Fields;
 use deck::{CardAnswer, Deck};
+use refusals::{Refusal, verdict_number};
+use std::ops::RangeInclusive;
 use table::{COLUMNS, GAINS, ROWS, TABLE_LENGTH, Table};
 
 // What all cells hold before a card.
@@ -29,23 +31,15 @@ fn fields(line: &Line) -> Fields {
     }
 }
 
-fn table_length(line: &Line) -> usize
-    ensures { result ≤ 2760 }
-{
-    (word(line, 25) as usize).min(TABLE_LENGTH)
-}
-
 fn run_entry(line: &Line, deck: Deck, table: &mut [f32]) -> CardAnswer {
-    if line[0] == b'm' {
-        return deck::run_malformed(deck, table);
-    }
-    deck::run_card(deck, fields(line), table)
+    let entry = (line[0] != b'm').then(|| fields(line));
+    deck::run_entry(deck, entry, table)
 }
 
 // Verdict, height and counts.
 fn is_answer(line: &Line, answer: CardAnswer) -> bool {
     let deck = answer.deck;
-    (word(line, 26) == refusals::verdict_number(answer.verdict))
+    (word(line, 26) == verdict_number(answer.verdict))
         & is(line, 27, deck.height)
         & (word(line, 28) == deck.accepted)
         & (word(line, 29) == deck.refused)
@@ -62,24 +56,22 @@ fn row_of(k: usize) -> usize
     }
 }
 
-// Whether the numbers of all rows but `first` to `last` are x.
-fn are_others(table: &Table, first: usize, last: usize, x: f32) -> bool {
-    for k in 0..TABLE_LENGTH {
-        let inside = (first..=last).contains(&row_of(k));
-        if !inside && !vectors::same(table[k], x) {
-            return false;
-        }
-    }
-    true
+// Whether the numbers of all rows but these are 0.
+fn are_others_zero(table: &Table, filled: RangeInclusive<usize>) -> bool {
+    (0..TABLE_LENGTH).all(|k| filled.contains(&row_of(k)) || vectors::same(table[k], 0.0))
 }
 
-// Whether the rows that aren't filled are 0. A refused card fills none; one refused by 7 leaves the
-// table as it was.
-fn is_rest(line: &Line, table: &Table) -> bool {
-    match word(line, 26) {
-        0 => are_others(table, word(line, 1) as usize, word(line, 2) as usize, 0.0),
-        7 => are_others(table, ROWS + 1, 0, BEFORE),
-        _ => are_others(table, ROWS + 1, 0, 0.0),
+fn are_all(table: &Table, x: f32) -> bool {
+    table.iter().all(|&number| vectors::same(number, x))
+}
+
+// Whether the rows that aren't filled are 0. A refused card fills none; one refused by its table's
+// length leaves the table as it was.
+fn is_rest(line: &Line, verdict: Result<(), Refusal>, table: &Table) -> bool {
+    match verdict {
+        Ok(()) => are_others_zero(table, word(line, 1) as usize..=word(line, 2) as usize),
+        Err(Refusal::Length) => are_all(table, BEFORE),
+        Err(_) => are_all(table, 0.0),
     }
 }
 
@@ -87,12 +79,8 @@ fn is_rest(line: &Line, table: &Table) -> bool {
 fn are_cells(line: &Line, row: usize, table: &Table) -> bool
     requires { row < 30 }
 {
-    for d in 0..COLUMNS {
-        if !is(line, d, table[row * COLUMNS + d]) {
-            return false;
-        }
-    }
-    is(line, COLUMNS, table[GAINS + row])
+    (0..COLUMNS).all(|d| is(line, d, table[row * COLUMNS + d]))
+        && is(line, COLUMNS, table[GAINS + row])
 }
 
 impl Replay {
@@ -107,11 +95,11 @@ impl Replay {
     // Runs the line's entry. A row of an accepted card, from its first on, has a line of its own.
     fn is_entry(&mut self, line: &Line) -> bool {
         table::fill(&mut self.table, BEFORE);
-        let n = table_length(line);
+        let n = length(line, 25, self.table.len());
         let answer = run_entry(line, self.deck, &mut self.table[..n]);
         self.deck = answer.deck;
         self.row = word(line, 1) as usize;
-        is_answer(line, answer) & is_rest(line, &self.table)
+        is_answer(line, answer) & is_rest(line, answer.verdict, &self.table)
     }
 
     // A line of a row that the table doesn't have differs.

@@ -2,7 +2,7 @@
 use crate::line::{Line, float, is_at, model, pair, word};
 use ioncap::{Answer, GainCall};
 use parameters::IoncapParams;
-use refusals::Refusal;
+use refusals::{Refusal, verdict_number};
 
 fn params(line: &Line) -> IoncapParams {
     let aex = [
@@ -32,16 +32,13 @@ fn call(line: &Line) -> GainCall {
     }
 }
 
-// The refusal as the number that the list has.
-fn is_outcome(line: &Line, refusal: u32, gain: f32, efficiency: f32) -> bool {
-    (pair(line, 128) == refusal) & is_at(line, 131, gain) & is_at(line, 140, efficiency)
-}
-
+// A refusal as the number that the list has, with zeros, as in list_antenna: only the columns
+// differ, and a shared function would take each of them as an argument.
 fn is_answer(line: &Line, answer: Result<Answer, Refusal>) -> bool {
-    match answer {
-        Ok(a) => is_outcome(line, 0, a.gain, a.efficiency),
-        Err(refusal) => is_outcome(line, refusal.number(), 0.0, 0.0),
-    }
+    let (gain, efficiency) = answer.map_or((0.0, 0.0), |a| (a.gain, a.efficiency));
+    (pair(line, 128) == verdict_number(answer))
+        & is_at(line, 131, gain)
+        & is_at(line, 140, efficiency)
 }
 
 // Also the height left.

@@ -1,4 +1,5 @@
-// Fields of a line: a number right-justified in the columns handed in, or stars.
+// Fields of a line: a number right-justified in the columns handed in, or stars. `Display` has no
+// such stars: the digits are written by hand into the caller's bytes, with no heap.
 ghost use Rattle.std.specs.Prelude.{◌≡◌, length};
 ghost use Rattle.output.specs.Field.{justified, integer_field};
 ghost use Rattle.output.specs.Hundredths.{nan_text, hundredths_field};

@@ -2,7 +2,8 @@
 ghost use Rattle.std.specs.Prelude.{◌≡◌};
 ghost use Rattle.parameters.specs.Kind.{kind_of};
 
-// `Other` is any number but 1 to 10.
+// `Other` is any number but 1 to 10. A variant, since document 01 refuses none here (D01-2.3): refusal 1
+// judges the number, and what stands behind takes any.
 #[derive(Clone, Copy, Debug, PartialEq, Eq)]
 pub enum Kind {
     Rhombic,

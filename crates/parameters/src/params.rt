@@ -42,16 +42,16 @@ pub fn ioninit(index: i32, parm: &[f32; 20]) -> IoncapParams
     let [_, _, _, _, _, s6, s7, s8, s9, s10, s11, s12, ..] = *parm;
     // An arm for each type: document 01 speaks of ten arms.
     match Kind::from(index) {
-        Kind::Rhombic => params(parm, s6, s7, s8, [0.0, 0.0, 0.0, 0.0]),
-        Kind::Monopole => params(parm, 0.0, s6, s7, [0.0, 0.0, 0.0, 0.0]),
+        Kind::Rhombic => params(parm, s6, s7, s8, [0.0; 4]),
+        Kind::Monopole => params(parm, 0.0, s6, s7, [0.0; 4]),
         Kind::Dipole => params(parm, 0.0, s6, s7, [s8, 0.0, 0.0, 0.0]),
         Kind::Yagi => params(parm, 0.0, s6, s7, [s8, 0.0, 0.0, 0.0]),
         Kind::LogPeriodic => params(parm, 0.0, -0.25, 0.0, [s6, 0.0, 0.0, 0.0]),
         Kind::Curtain => params(parm, s6, s7, s8, [s9, s10, s11, s12]),
         Kind::SlopingVee => params(parm, s6, s7, s8, [s9, 0.0, 0.0, 0.0]),
-        Kind::InvertedL => params(parm, 0.0, s6, s7, [0.0, 0.0, 0.0, 0.0]),
+        Kind::InvertedL => params(parm, 0.0, s6, s7, [0.0; 4]),
         Kind::SlopingRhombic => params(parm, s6, s7, s8, [s9, 0.0, 0.0, 0.0]),
         Kind::InterlacedRhombic => params(parm, s6, s7, s8, [s9, s10, 0.0, 0.0]),
-        Kind::Other => params(parm, 0.0, 0.0, 0.0, [0.0, 0.0, 0.0, 0.0]),
+        Kind::Other => params(parm, 0.0, 0.0, 0.0, [0.0; 4]),
     }
 }

@@ -14,7 +14,7 @@ use Rattle.integrals.proofs.Refusal.{map_number, settled_answers}
 use Rattle.dipoles.proofs.Refusal.{dipole_number_lem}
 use Rattle.verticals.proofs.Refusal.{monopole_number_lem}
 use Rattle.inverted_l.proofs.Refusal.{inverted_l_number_lem}
-use Rattle.patterns.specs.Pattern.{settled_at, dipole_of, monopole_for, inverted_l_of, pattern_by, pattern_of, settles_by, pattern_settles}
+use Rattle.patterns.specs.Pattern.{dipole_of, monopole_for, inverted_l_of, pattern_by, pattern_of, settles_by, pattern_settles}
 use Rattle.antennas.specs.declared.antenna.Antenna.{Antenna}
 use Rattle.patterns.specs.declared.pattern.Pattern.{Pattern}
 use Rattle.patterns.specs.declared.pattern.Pattern.TheVariants as P
@@ -23,7 +23,7 @@ module _ (antenna : Antenna) (wave : Float) where
   by_kind : (kind : Kind)
       → unsettled_number (pattern_by kind antenna wave (leg_of antenna.leg wave) (phase_of height_turn antenna.height wave))
       ≡ settled_number (settles_by kind antenna wave)
-  unfolding unsettled_number settled_at dipole_of monopole_for inverted_l_of
+  unfolding unsettled_number dipole_of monopole_for inverted_l_of
   by_kind K.Rhombic = refl
   by_kind K.Monopole = map_number _ _ ∙ monopole_number_lem _ _
   by_kind K.Dipole = map_number _ _ ∙ dipole_number_lem _ _

@@ -11,7 +11,7 @@ use Rattle.lengths.specs.declared.length.Length.{Length}
 use Rattle.angles.specs.declared.angles.Azimuth.{Azimuth}
 use Rattle.angles.specs.declared.angles.Elevation.{Elevation}
 use Rattle.reflection.specs.declared.ground.Ground.{Ground}
-use Rattle.integrals.specs.Settled.{settled_map}
+use Rattle.integrals.specs.Settled.{at_once, settled_map}
 use Rattle.integrals.specs.declared.settled.Settled.{Settled}
 use Rattle.rhombics.specs.Legs.{legs_of}
 use Rattle.rhombics.specs.Rhombic.{rhombic_of}
@@ -30,10 +30,6 @@ use Rattle.antennas.specs.declared.antenna.Antenna.{Antenna}
 use Rattle.patterns.specs.declared.pattern.Pattern.{Pattern}
 use Rattle.patterns.specs.declared.pattern.Pattern.TheVariants as P
 
--- a pattern that takes no integrals
-unfoldable pub settled_at : Pattern → Option (Settled Pattern)
-settled_at pattern = Some (record { value = pattern; turns = record { ci = 0; si = 0 } })
-
 unfoldable pub dipole_of : Float → Float → Option (Settled Pattern)
 dipole_of fac hwave = settled_map (λ row. P.Wire row) (dipole_row fac hwave)
 
@@ -50,21 +46,21 @@ sloping_of antenna wave leg height =
 
 -- what a row at this wavelength takes, by type, of its leg and height in wavelengths
 abbrev pub pattern_by : Kind → Antenna → Float → LegInWaves → PhaseInWaves → Option (Settled Pattern)
-pattern_by K.Rhombic antenna wave leg height = settled_at (P.Rhombic (legs_of antenna.params.and antenna.azimuth leg.fac height.phase))
+pattern_by K.Rhombic antenna wave leg height = Some (at_once (P.Rhombic (legs_of antenna.params.and antenna.azimuth leg.fac height.phase)))
 pattern_by K.InterlacedRhombic antenna wave leg height =
     let aex = antenna.params.aex in
-    settled_at (P.Interlaced (legs_of antenna.params.and antenna.azimuth leg.fac height.phase) (offset_of (get_or aex 0 nan) (get_or aex 1 nan) wave))
+    Some (at_once (P.Interlaced (legs_of antenna.params.and antenna.azimuth leg.fac height.phase) (offset_of (get_or aex 0 nan) (get_or aex 1 nan) wave)))
 pattern_by K.InvertedL antenna wave leg height = inverted_l_of leg.fac height.phase
-pattern_by K.SlopingVee antenna wave leg height = settled_at (P.Vee (vee_slope (sloping_of antenna wave leg height)))
-pattern_by K.SlopingRhombic antenna wave leg height = settled_at (P.SlopingRhombic (rhombic_slope (sloping_of antenna wave leg height)))
+pattern_by K.SlopingVee antenna wave leg height = Some (at_once (P.Vee (vee_slope (sloping_of antenna wave leg height))))
+pattern_by K.SlopingRhombic antenna wave leg height = Some (at_once (P.SlopingRhombic (rhombic_slope (sloping_of antenna wave leg height))))
 pattern_by K.Curtain antenna wave leg height =
     let aex = antenna.params.aex in
-    settled_at (P.Curtain (card_of antenna.params.and (get_or aex 0 nan)) (row_of leg.fac height.waves aex antenna.azimuth wave))
+    Some (at_once (P.Curtain (card_of antenna.params.and (get_or aex 0 nan)) (row_of leg.fac height.waves aex antenna.azimuth wave)))
 pattern_by K.Dipole antenna wave leg height = dipole_of leg.fac height.phase
 pattern_by K.Yagi antenna wave leg height = dipole_of leg.fac height.phase
 pattern_by K.Monopole antenna wave leg height = monopole_for antenna.leg wave
 pattern_by K.LogPeriodic antenna wave leg height = monopole_for antenna.leg wave
-pattern_by K.Other antenna wave leg height = settled_at P.Other
+pattern_by K.Other antenna wave leg height = Some (at_once P.Other)
 
 unfoldable pub pattern_of : Antenna → Float → Option (Settled Pattern)
 pattern_of antenna wave = pattern_by antenna.kind antenna wave (leg_of antenna.leg wave) (phase_of height_turn antenna.height wave)

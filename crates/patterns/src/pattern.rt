@@ -4,17 +4,17 @@ ghost use Rattle.single.specs.Answer.{IsAnswer};
 ghost use Rattle.integrals.specs.Settled.{unsettled_number, settled_value};
 ghost use Rattle.patterns.specs.Pattern.{pattern_settles};
 ghost use Rattle.patterns.specs.declared.pattern.Pattern.TheVariants as P;
-ghost use Rattle.patterns.specs.Pattern.{settled_at, sloping_of, pattern_by, pattern_of, power_of};
+ghost use Rattle.patterns.specs.Pattern.{sloping_of, pattern_by, pattern_of, power_of};
 
 use angles::{Azimuth, Elevation};
 use antennas::Antenna;
 use curtain::{CurtainCard, CurtainRow};
 use dipoles::{Dipole, dipole_row};
-use integrals::{Settled, Turns};
+use integrals::Settled;
 use interlaced::Offset;
 use inverted_l::{InvertedL, inverted_l_row};
 use lengths::{HEIGHT_TURN, LegInWaves, PhaseInWaves};
-use parameters::Kind;
+use parameters::{IoncapParams, Kind};
 use reflection::Ground;
 use rhombics::Legs;
 use slopes::{Slope, SlopingLegs};
@@ -31,18 +31,8 @@ pub enum Pattern {
     Wire(Dipole),
     Vertical(Monopole),
     Inverted(InvertedL),
+    // Of no type: an answer as any, with no power.
     Other,
-}
-
-// A pattern without integrals.
-#[tactic(auto, unfolding(crate::specs::Pattern::settled_at))]
-fn settled(pattern: Pattern) -> Option<Settled<Pattern>>
-    ensures { result ≡ settled_at pattern }
-{
-    Some(Settled {
-        value: pattern,
-        turns: Turns::NONE,
-    })
 }
 
 // The legs of a sloping antenna, in wavelengths.
@@ -69,35 +59,36 @@ fn pattern_by(
 ) -> Option<Settled<Pattern>>
     ensures { result ≡ pattern_by antenna.kind antenna wave along above }
 {
-    let phi = antenna.params.and;
-    let aex = antenna.params.aex;
+    let IoncapParams { and: phi, aex, .. } = antenna.params;
     let azimuth = antenna.azimuth;
+    let leg = antenna.leg;
     let fac = along.fac;
     let hwave = above.phase;
     let sloping = sloping_of(antenna, wave, along, above);
-    match antenna.kind {
-        Kind::Rhombic => settled(Pattern::Rhombic(rhombics::legs_of(phi, azimuth, fac, hwave))),
-        Kind::InterlacedRhombic => settled(Pattern::Interlaced(
+    let pattern = match antenna.kind {
+        Kind::Rhombic => Pattern::Rhombic(rhombics::legs_of(phi, azimuth, fac, hwave)),
+        Kind::InterlacedRhombic => Pattern::Interlaced(
             rhombics::legs_of(phi, azimuth, fac, hwave),
             interlaced::offset_of(aex[0], aex[1], wave),
-        )),
+        ),
         Kind::InvertedL => {
-            inverted_l_row(fac, hwave).map(|row| row.with(Pattern::Inverted(row.value)))
+            return inverted_l_row(fac, hwave).map(|row| row.with(Pattern::Inverted(row.value)));
         }
-        Kind::SlopingVee => settled(Pattern::Vee(sloping.vee_slope())),
-        Kind::SlopingRhombic => settled(Pattern::SlopingRhombic(sloping.rhombic_slope())),
-        Kind::Curtain => settled(Pattern::Curtain(
+        Kind::SlopingVee => Pattern::Vee(sloping.vee_slope()),
+        Kind::SlopingRhombic => Pattern::SlopingRhombic(sloping.rhombic_slope()),
+        Kind::Curtain => Pattern::Curtain(
             curtain::curtain_card(phi, aex[0]),
             curtain::curtain_row(fac, above.waves, aex, azimuth, wave),
-        )),
+        ),
         Kind::Dipole | Kind::Yagi => {
-            dipole_row(fac, hwave).map(|row| row.with(Pattern::Wire(row.value)))
+            return dipole_row(fac, hwave).map(|row| row.with(Pattern::Wire(row.value)));
         }
         Kind::Monopole | Kind::LogPeriodic => {
-            monopole_row(antenna.leg, wave).map(|row| row.with(Pattern::Vertical(row.value)))
+            return monopole_row(leg, wave).map(|row| row.with(Pattern::Vertical(row.value)));
         }
-        Kind::Other => settled(Pattern::Other),
-    }
+        Kind::Other => Pattern::Other,
+    };
+    Some(Settled::at_once(pattern))
 }
 
 // With the most turns of an integral's series.
@@ -110,7 +101,8 @@ pub fn pattern_of(antenna: Antenna, wave: f32) -> Option<Settled<Pattern>>
 }
 
 // `rain` before it is taken to dB. The curtain's is in dB from the start: the crate
-// `cells` takes it from `curtain`. An elevation and the ground are made apart, so no struct holds both.
+// `cells` takes it from `curtain`. An elevation and its ground stay two: a struct of them would be
+// made for this call alone.
 #[tactic(auto, unfolding(crate::specs::Pattern::power_of, single::proofs::Literals::round, single::proofs::Literals::of_bits, single::proofs::Literals::neg))]
 pub fn power_of(pattern: Pattern, azimuth: Azimuth, elevation: Elevation, earth: Ground) -> f32
     ensures { result ≡ power_of pattern azimuth elevation earth }

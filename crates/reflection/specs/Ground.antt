@@ -5,7 +5,7 @@ use Rattle.std.specs.Float.Ieee.{neg, lt, le, eq}
 use Rattle.single.specs.Single.{◌⊞◌, ◌⊟◌, ◌⊠◌, ◌⊘◌, num}
 use Rattle.root.specs.Root.{root}
 use Rattle.elementary.specs.Basic.{absolute}
-use Rattle.elementary.specs.Trigonometric.{sine, cosine}
+use Rattle.elementary.specs.Trigonometric.{sine, cosine, sine_cosine_of}
 use Rattle.elementary.specs.Arctangent.{arctangent}
 use Rattle.angles.specs.Angles.{right_angle}
 use Rattle.angles.specs.declared.angles.Elevation.{Elevation}
@@ -13,6 +13,7 @@ use Rattle.reflection.specs.declared.soil.Soil.{Soil}
 use Rattle.reflection.specs.declared.ground.Ground.{Ground}
 use Rattle.reflection.specs.declared.ground.Refraction.{Refraction}
 use Rattle.reflection.specs.declared.ground.Coefficient.{Coefficient}
+use Rattle.reflection.specs.declared.image.ReflectedPhase.{ReflectedPhase}
 
 abbrev pub two : Float
 two = num 2 1
@@ -92,3 +93,8 @@ image_power c phase = c ⊠ c ⊞ num 1 1 ⊟ two ⊠ c ⊠ cosine phase
 -- that of a wave whose image lies hwave2 below it, at an elevation of sine q: of ch and psih, or of cv and psiv
 unfoldable pub with_image : Float → Float → Float → Float → Float
 with_image c psi hwave2 q = image_power c (psi ⊟ hwave2 ⊠ q)
+
+-- sine and cosine of the image's phase there, by psih and by psiv
+unfoldable pub reflected_of : Float → Float → Float → Float → ReflectedPhase
+reflected_of psih psiv hwave2 q =
+    record { horizontal = sine_cosine_of (psih ⊟ hwave2 ⊠ q); vertical = sine_cosine_of (psiv ⊟ hwave2 ⊠ q) }

@@ -13,7 +13,8 @@ use crate::soil::Soil;
 use angles::Elevation;
 use elementary::SineCosine;
 
-// Magnitudes ch and cv, phases psih and psiv.
+// Magnitudes ch and cv, phases psih and psiv: the Rust's names, by which every formula takes them, and
+// so not two coefficients.
 #[derive(Clone, Copy)]
 pub struct Ground {
     pub ch: f32,
@@ -68,6 +69,7 @@ fn psiv(a: f32, b: f32) -> f32
     elementary::atan(a / b)
 }
 
+#[tactic(auto, unfolding(single::proofs::Literals::round, single::proofs::Literals::of_bits, crate::specs::Ground::cv_of, crate::specs::Ground::a_of, crate::specs::Ground::b_of, crate::specs::Ground::vertical_of))]
 fn vertical(soil: Soil, e: Elevation, w: Refraction) -> Coefficient
     ensures { result ≡ vertical_of soil e w }
 {

@@ -5,5 +5,5 @@ mod image;
 mod soil;
 
 pub use ground::{Ground, reflect};
-pub use image::{image_power, with_image};
+pub use image::{ReflectedPhase, image_power, reflected_of, with_image};
 pub use soil::{Soil, soil_of};

@@ -1,11 +1,7 @@
 -- A refusal and its number say the same. Assumes nothing.
 use Prim.Native.Nat.{ℕ, ◌<◌}
 use mathlib.Core.Path.{◌≡◌, refl, sym, ap, ◌∙◌}
-use mathlib.Core.Bool.{Bool, true, false, cond, true≢false}
 use native.Mathlib.Omega.{arith}
-use lib.Dec.{eqb}
-use Rattle.std.proofs.lemmas.Bool.{eqb-true}
-use Rattle.std.specs.Result.{is_ok}
 use Rattle.std.specs.declared.result.Result.{Result}
 use Rattle.std.specs.declared.result.Result.TheVariants.{Ok, Err}
 use Rattle.refusals.specs.declared.Refusal.{Refusal}
@@ -84,11 +80,3 @@ module _ {n : ℕ} {r : Result Unit Refusal} (j : IsJudged n r) where
       go : (s : Result Unit Refusal) → r ≡ s → outcome_number (answered n values) ≡ n
       go (Ok u) e = ap outcome_number (answered_ok values e) ∙ sym (accepted e)
       go (Err f) e = ap outcome_number (answered_err values e) ∙ sym (refused e)
-
--- an accepted answer's number is 0
-pub answered_is_ok : {A : Type 0} {w : A} (n : ℕ) (values : A) → answered n values ≡ Ok w → n ≡ 0
-answered_is_ok {A} {w} n values e = go (eqb n 0) refl e
-  where
-    go : (b : Bool) → eqb n 0 ≡ b → cond b (Ok values) (Err (refusal_of n)) ≡ Ok w → n ≡ 0
-    go true h f = eqb-true n 0 h
-    go false h f = absurd (true≢false (ap is_ok (sym f)))

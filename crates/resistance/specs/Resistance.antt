@@ -3,21 +3,21 @@ use Rattle.std.specs.Prelude.{Float, Option}
 use Rattle.std.specs.Float.Ieee.{neg}
 use Rattle.single.specs.Single.{◌⊞◌, ◌⊟◌, ◌⊠◌, num}
 use Rattle.elementary.specs.Trigonometric.{sine, cosine}
-use Rattle.elementary.specs.Logarithm.{logarithm}
 use Rattle.integrals.specs.declared.rational.Integrals.{Integrals}
+use Rattle.integrals.specs.Cin.{cin_of}
 use Rattle.integrals.specs.Pair.{integral_pair}
 use Rattle.integrals.specs.Settled.{settled_map}
 use Rattle.integrals.specs.declared.settled.Settled.{Settled}
 
--- 0.577215 + v.ln() - ci
-unfoldable pub cin_of : Float → Float → Float
-cin_of v ci = num 577215 1000000 ⊞ logarithm v ⊟ ci
+-- Euler's constant, as types 2, 5 and 8 have it
+abbrev pub euler : Float
+euler = num 577215 1000000
 
 -- of the phases d and z and their integrals: the Rust has w2, w3 of d and w, w1 of z
 unfoldable pub resistance_from : Float → Float → Integrals → Integrals → Float
 resistance_from d z dw zw =
     num 30 1 ⊠ (
-    neg (num 5 10) ⊠ cosine d ⊠ cin_of z zw.ci ⊞ (num 1 1 ⊞ cosine d) ⊠ cin_of d dw.ci
+    neg (num 5 10) ⊠ cosine d ⊠ cin_of euler z zw.ci ⊞ (num 1 1 ⊞ cosine d) ⊠ cin_of euler d dw.ci
     ⊞ sine d ⊠ (num 5 10 ⊠ zw.si ⊟ dw.si))
 
 unfoldable pub resistance_of : Float → Float → Option (Settled Float)

@@ -5,7 +5,7 @@ use mathlib.Core.Logic.{◌≢◌}
 use Prim.Native.Nat.{ℕ, zero, suc, ◌+◌, ◌-◌, ◌*◌, ◌/◌, ◌%◌, ◌^◌, ◌≤◌, ◌<◌, compare, Ordering}
 use native.Mathlib.Omega.{arith}
 use native.Mathlib.Nat.{mul_assoc, mul_comm, mul_left_comm, mul_right_comm, mul-pos, mul-le-mul, mul-lt-mul_of_pos_right, mul-div_cancel, mod-add-div}
-use native.Mathlib.Nat.{le_refl, le_trans, le_of_eq, lt_of_lt_of_le, lt_of_le_of_lt, div-lt_iff_lt-mul, le-div_iff_mul-le, div-div-eq-div-mul}
+use native.Mathlib.Nat.{not-le_of_lt, le_refl, le_trans, le_of_eq, lt_of_lt_of_le, lt_of_le_of_lt, div-lt_iff_lt-mul, le-div_iff_mul-le, div-div-eq-div-mul}
 use lib.Dec.{T, T_not, eqb, eqb→eq}
 use lib.IntN.{ℤ}
 use lib.Pow.{pow_pos}
@@ -20,21 +20,18 @@ use Rattle.root.specs.Root.{IsRoot, isqrt, root_units, root}
 use Rattle.root.proofs.Whole.{isqrt_is, isqrt_of, square_lt}
 
 -- ---- comparisons
-clash : (a b : ℕ) → a < b → b ≤ a → ⊥
-clash a b h k = omega arith
-
 pub same : (a b c d : ℕ) → (a < b → c < d) → (a ≡ b → c ≡ d) → (b < a → d < c) → compare a b ≡ compare c d
 same a b c d f g h = go (compare a b) (compare c d) (cmp a b) (cmp c d)
   where
     go : (o p : Ordering) → Cmp o a b → Cmp p c d → o ≡ p
     go Ordering.lt Ordering.lt x y = refl
-    go Ordering.lt Ordering.eq x y = absurd (clash c d (f x) (omega arith))
-    go Ordering.lt Ordering.gt x y = absurd (clash c d (f x) (omega arith))
-    go Ordering.eq Ordering.lt x y = absurd (clash c d y (let e = g x in omega arith))
+    go Ordering.lt Ordering.eq x y = absurd (not-le_of_lt (f x) (omega arith))
+    go Ordering.lt Ordering.gt x y = absurd (not-le_of_lt (f x) (omega arith))
+    go Ordering.eq Ordering.lt x y = absurd (not-le_of_lt y (let e = g x in omega arith))
     go Ordering.eq Ordering.eq x y = refl
-    go Ordering.eq Ordering.gt x y = absurd (clash d c y (let e = g x in omega arith))
-    go Ordering.gt Ordering.lt x y = absurd (clash d c (h x) (omega arith))
-    go Ordering.gt Ordering.eq x y = absurd (clash d c (h x) (omega arith))
+    go Ordering.eq Ordering.gt x y = absurd (not-le_of_lt y (let e = g x in omega arith))
+    go Ordering.gt Ordering.lt x y = absurd (not-le_of_lt (h x) (omega arith))
+    go Ordering.gt Ordering.eq x y = absurd (not-le_of_lt (h x) (omega arith))
     go Ordering.gt Ordering.gt x y = refl
 
 compare_scale : (a b c : ℕ) → 0 < c → compare (a * c) (b * c) ≡ compare a b

@@ -11,6 +11,7 @@ use lib.Ieee.Scale.{finite}
 use Rattle.single.specs.Single.{◌⊠◌, ◌⊘◌, num}
 use Rattle.single.proofs.Magnitude.{Mag, or-le, neg_mag}
 use Rattle.single.proofs.Bounded.{AtLeast, div_mag, div_least}
+use Rattle.basic.proofs.WholePart.{absolute_mag}
 use Rattle.elementary.specs.Basic.{absolute}
 use Rattle.limits.specs.Tests.{outside}
 use Rattle.limits.proofs.Outside.{within_mag}
@@ -51,12 +52,6 @@ unfolding wave_of round
 wave_least fmc m = div_least (num 2997925 10000) fmc 299 30 3 refl (omega arith) (lit≤ tt) m (lit≤ tt)
 
 -- ---- a length within the limits is finite in wavelengths
-absolute_mag : (b : ℕ) (x : Float) → Mag b x → Mag b (absolute x)
-unfolding absolute
-absolute_mag b nan m = m
-absolute_mag b (inf s) m = m
-absolute_mag b (fin s m e) h = h
-
 in_waves_lem : (v wave : Float) → Mag 1000 v → AtLeast (2 ^ 3) wave → T (finite (v ⊘ wave))
 in_waves_lem v wave m w = mag_finite (2 ^ 7) (v ⊘ wave) (div_mag v wave 1000 (2 ^ 3) 7 (unfold round in refl) (lit≤ tt) m w (lit≤ tt))
 
@@ -67,7 +62,7 @@ metres_finite v wave m w = go (lt (num 0 1) v)
     go : (b : Bool)
         → T (finite (cond b (record { phase = num 6283185 1000000 ⊠ v ⊘ wave; waves = v ⊘ wave }) (in_waves (num 6283185 1000000) (absolute v))).waves)
     go true = in_waves_lem v wave m w
-    go false = mag_finite 1000 (absolute v) (absolute_mag 1000 v m)
+    go false = mag_finite 1000 (absolute v) (absolute_mag v 1000 m)
 
 length_finite : (v wave : Float) → Mag 1000 v → AtLeast (2 ^ 3) wave → T (finite (phase_of monopole_turn (length_of v) wave).waves)
 unfolding length_of

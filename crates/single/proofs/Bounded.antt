@@ -1,17 +1,17 @@
--- Quotients stay finite where the divisor is large enough, and products and quotients grow with the magnitudes of what goes into them, as rounded. Assumes nothing.
+-- Quotients stay finite where the divisor is large enough. Assumes nothing.
 use mathlib.Core.Path.{◌≡◌, refl, sym, ap, subst, ◌∙◌}
 use mathlib.Core.Bool.{Bool, true, false, cond}
 use Prim.Native.Nat.{ℕ, zero, suc, ◌+◌, ◌*◌, ◌^◌, ◌≤◌, ◌<◌}
 use native.Mathlib.Omega.{arith}
-use native.Mathlib.Nat.{mul-one, zero-mul, mul_assoc, mul_comm, mul_right_comm, mul-mul-mul_comm, mul-pos, mul-le-mul, le_refl, le_trans, le_of_eq, zero-lt-suc, lt_of_lt_of_le, not-le_of_lt}
+use native.Mathlib.Nat.{mul-one, zero-mul, mul_assoc, mul_right_comm, mul-pos, mul-le-mul}
+use native.Mathlib.Nat.{le_refl, le_trans, le_of_eq, zero-lt-suc, lt_of_lt_of_le, not-le_of_lt}
 use borrow.Author.Tests.{ne_eqb}
-use lib.Dec.{T, ltb, eqb, lit≤}
+use lib.Dec.{T, ltb, lit≤}
 use lib.IntN.{pos}
 use lib.Pow.{pow_pos}
-use lib.Ieee.{Float, nan, inf, fin, binary32, up, down, round, unlike, neg, mul, div, lt, le, eq, odd, units}
+use lib.Ieee.{Float, nan, inf, fin, binary32, up, down, round, unlike, neg, div, lt, le, eq, odd, units}
 use lib.Ieee.Fits.{down_pos, up_pos, round_is}
 use lib.Ieee.Order.{round_mono}
-use lib.Ieee.Scale.{finite}
 use Rattle.single.specs.Single.{is_negative}
 use Rattle.single.proofs.Magnitude.{Mag, Pow, or-le, round_mag}
 use Rattle.single.proofs.Sign.{odd_sign}
@@ -98,91 +98,3 @@ div_least (fin s (suc m) e) (fin t zero d) a b k p B f g h = simp (ne_eqb (suc m
 div_least (fin s (suc m) e) (fin t (suc n) d) a b k p B f g h =
     simp (ne_eqb (suc n) 0 (no_suc n))
     (round_least (unlike s t) (suc m * up e * down d) (suc n * up d * down e) k p (mul-pos (mul-pos (zero-lt-suc n) (up_pos d)) (down_pos e)) (under (suc n * up d) (suc m * up e) (down d) (down e) a b (2 ^ k) g f h))
-
--- ---- magnitudes beside each other
--- both are finite, and x is at most y in magnitude
-abbrev pub Within : Float → Float → Type 0
-Within (fin t n d) (fin s m e) = m * up e * down d ≤ n * up d * down e
-Within (fin t n d) nan = ⊥
-Within (fin t n d) (inf s) = ⊥
-Within nan x = ⊥
-Within (inf t) x = ⊥
-
-neg_within : (y x : Float) → Within y x → Within y (neg x) × Within (neg y) x
-unfolding neg
-neg_within nan x w = absurd w
-neg_within (inf t) x w = absurd w
-neg_within (fin t n d) nan w = absurd w
-neg_within (fin t n d) (inf s) w = absurd w
-neg_within (fin t n d) (fin s m e) w = (w, w)
-
-le_within : (x y : Float) → is_negative x ≡ false → is_negative y ≡ false → T (finite y) → T (le x y) → Within y x
-unfolding le lt eq
-le_within x nan p q f h = absurd f
-le_within x (inf t) p q f h = absurd f
-le_within nan (fin t n d) p q f h = absurd h
-le_within (inf true) (fin t n d) p q f h = absurd (subst T p tt)
-le_within (inf false) (fin t n d) p q f h = absurd h
-le_within (fin true m e) (fin t n d) p q f h = absurd (subst T p tt)
-le_within (fin false m e) (fin true n d) p q f h = absurd (subst T q tt)
-le_within (fin false m e) (fin false n d) p q f h = or-le (m * up e * down d) (n * up d * down e) h
-
--- a / b is at most c / d, so it is as rounded, whatever the signs
-plus_within : (a b c d : ℕ) → 0 < b → 0 < d → a * d ≤ c * b → T (finite (round binary32 false c d)) → Within (round binary32 false c d) (round binary32 false a b)
-plus_within a b c d B D h f = le_within (round binary32 false a b) (round binary32 false c d) (round_sign false a b) (round_sign false c d) f (round_mono binary32 a b c d B D h)
-
-neg_finite : (x : Float) → T (finite (neg x)) → T (finite x)
-unfolding neg
-neg_finite nan f = f
-neg_finite (inf s) f = f
-neg_finite (fin s m e) f = f
-
-right_within : (s : Bool) (y : Float) (a b : ℕ) → Within y (round binary32 false a b) → Within y (round binary32 s a b)
-right_within false y a b w = w
-right_within true y a b w = subst (Within y) (round_neg false a b) (neg_within y (round binary32 false a b) w).0
-
-round_within : (s t : Bool) (a b c d : ℕ) → 0 < b → 0 < d → a * d ≤ c * b → T (finite (round binary32 t c d)) → Within (round binary32 t c d) (round binary32 s a b)
-round_within s false a b c d B D h f = right_within s (round binary32 false c d) a b (plus_within a b c d B D h f)
-round_within s true a b c d B D h f =
-    right_within s (round binary32 true c d) a b
-    (subst (λ (y : Float). Within y (round binary32 false a b)) (round_neg false c d)
-    (neg_within (round binary32 false c d) (round binary32 false a b) (plus_within a b c d B D h (neg_finite (round binary32 false c d) (subst (λ (y : Float). T (finite y)) (sym (round_neg false c d)) f)))).1)
-
-swap : (a b c d : ℕ) → a * b * (c * d) ≡ a * d * (b * c)
-swap a b c d = ap (λ (x : ℕ). a * b * x) (mul_comm c d) ∙ mul-mul-mul_comm a b d c
-
--- products and quotients of numbers within others are within theirs, where those are finite
-pub mul_within : (x y x' y' : Float) → Within y x → Within y' x' → T (finite (mul binary32 y y')) → Within (mul binary32 y y') (mul binary32 x x')
-unfolding mul
-mul_within x nan x' y' w w' f = absurd w
-mul_within x (inf t) x' y' w w' f = absurd w
-mul_within nan (fin t n d) x' y' w w' f = absurd w
-mul_within (inf s) (fin t n d) x' y' w w' f = absurd w
-mul_within (fin s m e) (fin t n d) x' nan w w' f = absurd w'
-mul_within (fin s m e) (fin t n d) x' (inf t') w w' f = absurd w'
-mul_within (fin s m e) (fin t n d) nan (fin t' n' d') w w' f = absurd w'
-mul_within (fin s m e) (fin t n d) (inf s') (fin t' n' d') w w' f = absurd w'
-mul_within (fin s m e) (fin t n d) (fin s' m' e') (fin t' n' d') w w' f =
-    round_within (unlike s s') (unlike t t') (m * up e * (m' * up e')) (down e * down e') (n * up d * (n' * up d')) (down d * down d') (mul-pos (down_pos e) (down_pos e')) (mul-pos (down_pos d) (down_pos d'))
-    (le_trans (le_of_eq (mul-mul-mul_comm (m * up e) (m' * up e') (down d) (down d'))) (le_trans (mul-le-mul w w') (le_of_eq (mul-mul-mul_comm (n * up d) (down e) (n' * up d') (down e')))))
-    f
-
-pub div_within : (x y z : Float) → Within y x → T (finite z) → T (finite (div binary32 y z)) → Within (div binary32 y z) (div binary32 x z)
-unfolding div
-div_within x nan z w g f = absurd w
-div_within x (inf t) z w g f = absurd w
-div_within nan (fin t n d) z w g f = absurd w
-div_within (inf s) (fin t n d) z w g f = absurd w
-div_within (fin s m e) (fin t n d) nan w g f = absurd g
-div_within (fin s m e) (fin t n d) (inf u) w g f = absurd g
-div_within (fin s m e) (fin t n d) (fin u zero c) w g f = absurd (go (eqb n 0) f)
-  where
-    go : (b : Bool) → T (finite (cond b nan (inf (unlike t u)))) → ⊥
-    go true h = h
-    go false h = h
-div_within (fin s m e) (fin t n d) (fin u (suc r) c) w g f =
-    let z = ne_eqb (suc r) 0 (no_suc r) in
-    simp z
-    (round_within (unlike s u) (unlike t u) (m * up e * down c) (suc r * up c * down e) (n * up d * down c) (suc r * up c * down d) (mul-pos (mul-pos (zero-lt-suc r) (up_pos c)) (down_pos e)) (mul-pos (mul-pos (zero-lt-suc r) (up_pos c)) (down_pos d))
-    (le_trans (le_of_eq (swap (m * up e) (down c) (suc r * up c) (down d))) (le_trans (mul-le-mul w (le_refl (down c * (suc r * up c)))) (le_of_eq (sym (swap (n * up d) (down c) (suc r * up c) (down e))))))
-    (simp z at f))

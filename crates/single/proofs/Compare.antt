@@ -3,6 +3,7 @@ use mathlib.Core.Path.{◌≡◌, refl, subst}
 use mathlib.Core.Bool.{Bool, true, false, not}
 use mathlib.Core.Logic.{◌⊎◌, inl, inr}
 use Prim.Native.Nat.{ℕ, ◌+◌, ◌%◌, ◌≤◌, ◌<◌, compare, Ordering}
+use native.Mathlib.Nat.{not-le_of_lt}
 use native.Mathlib.Omega.{arith}
 use lib.Dec.{T, leb, leb→le, nleb→lt, eqb→eq, eqb_refl, is_le, compare_is_eq, eqb}
 use lib.Arith.{lt_of_le-ne}
@@ -28,29 +29,26 @@ cmp a b = go (compare a b) (leb→le a b) (nleb→lt a b) (eqb→eq a b) (λ (e 
     go Ordering.eq h k e n = e tt
     go Ordering.gt h k e n = k tt
 
-clash : (a b : ℕ) → a < b → b ≤ a → ⊥
-clash a b h k = omega arith
-
 pub nearest_down : (q a b : ℕ) → a < b → q ≡ nearest q (compare a b)
 nearest_down q a b h = go (compare a b) (cmp a b)
   where
     go : (o : Ordering) → Cmp o a b → q ≡ nearest q o
     go Ordering.lt x = refl
-    go Ordering.eq x = absurd (clash a b h (omega arith))
-    go Ordering.gt x = absurd (clash a b h (omega arith))
+    go Ordering.eq x = absurd (not-le_of_lt h (omega arith))
+    go Ordering.gt x = absurd (not-le_of_lt h (omega arith))
 
 pub nearest_up : (q a b : ℕ) → b < a → q + 1 ≡ nearest q (compare a b)
 nearest_up q a b h = go (compare a b) (cmp a b)
   where
     go : (o : Ordering) → Cmp o a b → q + 1 ≡ nearest q o
-    go Ordering.lt x = absurd (clash b a h (omega arith))
-    go Ordering.eq x = absurd (clash b a h (omega arith))
+    go Ordering.lt x = absurd (not-le_of_lt h (omega arith))
+    go Ordering.eq x = absurd (not-le_of_lt h (omega arith))
     go Ordering.gt x = omega arith
 
 pub nearest_even : (q a b : ℕ) → a ≡ b → q + q % 2 ≡ nearest q (compare a b)
 nearest_even q a b h = go (compare a b) (cmp a b)
   where
     go : (o : Ordering) → Cmp o a b → q + q % 2 ≡ nearest q o
-    go Ordering.lt x = absurd (clash a b x (omega arith))
+    go Ordering.lt x = absurd (not-le_of_lt x (omega arith))
     go Ordering.eq x = refl
-    go Ordering.gt x = absurd (clash b a x (omega arith))
+    go Ordering.gt x = absurd (not-le_of_lt x (omega arith))

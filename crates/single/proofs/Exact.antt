@@ -1,17 +1,17 @@
 -- A finite f32 as a whole number of units of 2 ^ -149, with no digit lost; it rounds to itself, and 0 - x is exact. Assumes nothing.
 use mathlib.Core.Path.{◌≡◌, refl, sym, ap, subst, ◌∙◌}
-use mathlib.Core.Bool.{Bool, true, false, not, ◌&&◌}
+use mathlib.Core.Bool.{Bool, true, false, ◌&&◌}
 use Prim.Native.Nat.{ℕ, zero, suc, ◌+◌, ◌-◌, ◌*◌, ◌/◌, ◌%◌, ◌^◌, ◌≤◌, ◌<◌}
 use native.Mathlib.Omega.{arith}
-use native.Mathlib.Nat.{lt_irrefl, mul-one, one-mul, zero-mul, mul_assoc, mul-pos, div-one, mul-div_cancel, not-le_of_lt, lt_of_not-le, le_of_suc-le-suc, lt_of_mul-lt-mul_right, mul-lt-mul_of_pos_right, mul_right_comm, zero-lt-suc}
+use native.Mathlib.Nat.{lt_irrefl, mul-one, zero-mul, mul_assoc, mul-pos, div-one}
+use native.Mathlib.Nat.{mul-div_cancel, not-le_of_lt, lt_of_not-le, le_of_suc-le-suc, lt_of_mul-lt-mul_right, mul-lt-mul_of_pos_right, mul_right_comm}
 use lib.Dec.{T, leb, ltb, eqb, leb→le, ltb→lt}
 use lib.IntN.{ℤ, pos, negsuc}
 use lib.Pow.{pow_pos, pow-add, pow-lt}
-use lib.Ieee.{Float, nan, inf, fin, binary32, round, fits, up, down, neg, add, sub, sum}
+use lib.Ieee.{Float, nan, inf, fin, binary32, round, fits, up, down}
 use lib.Ieee.Exact.{HasValue}
-use lib.Ieee.Fits.{and_l, and_r, down_pos, up_pos, neg-fits}
+use lib.Ieee.Fits.{and_l, and_r, down_pos}
 use lib.Ieee.Scale.{round_same}
-use borrow.Author.Tests.{lt-ltb}
 use Rattle.single.specs.Single.{units_of}
 use Rattle.single.proofs.Value.{round_to}
 
@@ -77,21 +77,3 @@ round_value (fin false zero e) a c f A C v = absurd (lt_irrefl 0 (subst (λ (x :
 round_value (fin false (suc m) e) a c f A C v = round_same binary32 false a c (suc m * up e) (down e) C (down_pos e) (sym v.1) ∙ round_own false m e f
 
 -- ---- 0 - x
-left : (a d : ℕ) → (0 * 1 * d + a * 1) * d ≡ a * (1 * d)
-left a d = let z : 0 + a ≡ a = omega arith in simp (zero-mul, mul-one, one-mul) (ap (λ (x : ℕ). x * d) z)
-
-right : (a d : ℕ) → (a * 1 - 0 * 1 * d) * d ≡ a * (1 * d)
-right a d = let z : a - 0 ≡ a = omega arith in simp (zero-mul, mul-one, one-mul) (ap (λ (x : ℕ). x * d) z)
-
-above_zero : (n d : ℕ) (e : ℤ) → 0 * 1 * d < suc n * up e * 1
-above_zero n d e = let p : 0 < suc n * up e = mul-pos (zero-lt-suc n) (up_pos e) in simp (zero-mul, mul-one) p
-
-pub zero_minus : (s : Bool) (n : ℕ) (d : ℤ) → T (fits binary32 (fin s (suc n) d)) → sub binary32 (fin false zero (pos zero)) (fin s (suc n) d) ≡ fin (not s) (suc n) d
-unfolding sub add sum neg
-zero_minus true n d t =
-    round_same binary32 false (0 * 1 * down d + suc n * up d * 1) (1 * down d) (suc n * up d) (down d) (mul-pos (zero-lt-suc 0) (down_pos d)) (down_pos d) (left (suc n * up d) (down d))
-    ∙ round_own false n d (neg-fits binary32 (fin true (suc n) d) t)
-zero_minus false n d t =
-    simp (lt-ltb (0 * 1 * down d) (suc n * up d * 1) (above_zero n (down d) d))
-    (round_same binary32 true (suc n * up d * 1 - 0 * 1 * down d) (1 * down d) (suc n * up d) (down d) (mul-pos (zero-lt-suc 0) (down_pos d)) (down_pos d) (right (suc n * up d) (down d))
-    ∙ round_own true n d (neg-fits binary32 (fin false (suc n) d) t))

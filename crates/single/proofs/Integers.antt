@@ -1,12 +1,12 @@
 -- Signed integers as the machine has them: `to_z w (of_z w z)` is how it reads z back, which is z where z fits. Assumes nothing.
 use mathlib.Core.Path.{◌≡◌, refl, sym, ap, ◌∙◌, subst}
-use mathlib.Core.Bool.{Bool, true, false, true≢false, false≢true}
-use Prim.Native.Nat.{ℕ, zero, suc, ◌+◌, ◌-◌, ◌^◌, ◌≤◌, ◌<◌}
+use mathlib.Core.Bool.{Bool, true, false, false≢true}
+use Prim.Native.Nat.{ℕ, zero, suc, ◌+◌, ◌^◌, ◌≤◌, ◌<◌}
 use native.Mathlib.Nat.{le_of_lt, lt_of_lt_of_le, lt-suc_self}
 use native.Mathlib.Omega.{arith}
 use lib.IntN.{ℤ, pos, negsuc, neg_ℤ, ◌-ℤ◌, nat_abs, +ℤ_idl, pos-ne-negsuc}
 use lib.Signed.{le_z, non_neg}
-use lib.Dec.{T, leb-zero}
+use lib.Dec.{T}
 use mir.Syntax.{Width, w64}
 use mir.Val.{Fits, SFits, bits, hbits, to_z, of_z}
 use mir.ValLaws.{to_z-of_z}
@@ -19,10 +19,6 @@ back w z = to_z w (of_z w z)
 pub is_plus : (w : Width) (z : ℤ) → SFits w z → le_z (pos 0) (back w z) ≡ true → z ≡ pos (nat_abs z)
 is_plus w (pos a) F t = refl
 is_plus w (negsuc a) F t = absurd (false≢true (subst (λ (y : ℤ). le_z (pos 0) y ≡ true) (to_z-of_z w (negsuc a) F) t))
-
-pub is_minus : (w : Width) (z : ℤ) → SFits w z → le_z (pos 0) (back w z) ≡ false → z ≡ negsuc (nat_abs z - 1)
-is_minus w (pos a) F t = absurd (true≢false (sym (leb-zero a) ∙ subst (λ (y : ℤ). le_z (pos 0) y ≡ false) (to_z-of_z w (pos a) F) t))
-is_minus w (negsuc a) F t = let z : a ≡ suc a - 1 = omega arith in ap negsuc z
 
 -- z is not negative: it can be cast, and is its own magnitude
 abbrev pub Plain : Width → ℤ → Type 0

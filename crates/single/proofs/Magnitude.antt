@@ -4,7 +4,7 @@ use mathlib.Core.Bool.{Bool, true, false, cond, not, ◌&&◌, ◌||◌, beq}
 use Prim.Native.Nat.{ℕ, zero, suc, ◌+◌, ◌-◌, ◌*◌, ◌<◌, ◌≤◌, ◌^◌}
 use native.Mathlib.Omega.{arith}
 use native.Mathlib.Nat.{le_trans, le_of_eq, le_refl, mul-le-mul, mul_comm, mul_assoc, mul-pos, mul-one, add-mul, mul-mul-mul_comm}
-use lib.Dec.{T, ltb, eqb, ltb→lt, lt→ltb, eqb→eq, lit≤}
+use lib.Dec.{T, ltb, eqb, ltb→lt, eqb→eq, lit≤}
 use lib.IntN.{ℤ, pos}
 use lib.Ieee.{Float, nan, inf, fin, binary32, up, down, odd, units, round, unlike, neg, sum, add, sub, mul, lt, eq, le, is_nan}
 use lib.Ieee.Fits.{down_pos, round_is}
@@ -122,9 +122,6 @@ pub or_i : (p q : Bool) → T p → T (p || q)
 or_i true q t = tt
 or_i false q t = absurd t
 
-below_i64 : (b m : ℕ) (e : ℤ) → b < 2 ^ 63 → m * up e ≤ b * down e → T (ltb (m * up e * 1) (1 * 2 ^ 63 * down e))
-below_i64 b m e l f = let g : suc b * down e ≤ 2 ^ 63 * down e = mul-le-mul l (le_refl (down e)) in lt→ltb (m * up e * 1) (1 * 2 ^ 63 * down e) (omega (arith, down_pos e))
-
 -- within ±2 ^ k, as two comparisons say it
 pub mag_of : (x : Float) (k : ℕ) → T (le (fin true 1 (pos k)) x) → T (le x (fin false 1 (pos k))) → Mag (2 ^ k) x
 unfolding le lt eq
@@ -133,17 +130,3 @@ mag_of (inf true) k h g = absurd h
 mag_of (inf false) k h g = absurd g
 mag_of (fin false m e) k h g = le_mag m e k g
 mag_of (fin true m e) k h g = let l : m * up e * 1 ≤ 1 * 2 ^ k * down e = or_ge (1 * 2 ^ k * down e) (m * up e * 1) h in omega arith
-
--- b below 2 ^ 63: what `truncating_f32_to_i64` asks
-pub in_i64 : (x : Float) (b : ℕ) → b < 2 ^ 63 → Mag b x → T (le (fin true 1 (pos 63)) x) × T (lt x (fin false 1 (pos 63)))
-unfolding le lt eq
-in_i64 nan b l f = absurd f
-in_i64 (inf s) b l f = absurd f
-in_i64 (fin false m e) b l f = (
-  or_i (ltb 0 (1 * 2 ^ 63 * down e + m * up e * 1)) _ (lt→ltb 0 (1 * 2 ^ 63 * down e + m * up e * 1) (let d : 0 < down e = down_pos e in omega arith)),
-  below_i64 b m e l f,
-)
-in_i64 (fin true m e) b l f = (
-  or_i (ltb (m * up e * 1) (1 * 2 ^ 63 * down e)) _ (below_i64 b m e l f),
-  lt→ltb 0 (m * up e * 1 + 1 * 2 ^ 63 * down e) (let d : 0 < down e = down_pos e in omega arith),
-)

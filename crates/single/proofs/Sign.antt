@@ -4,11 +4,9 @@ use mathlib.Core.Bool.{Bool, true, false, not, cond}
 use Prim.Native.Nat.{ℕ, zero, suc, ◌+◌, ◌*◌, ◌%◌, ◌/◌, ◌<◌, ◌≤◌}
 use native.Mathlib.Omega.{arith}
 use lib.Arith.{le→nltb}
-use borrow.Author.Tests.{lt-ltb}
 use lib.Dec.{T, leb, eqb}
-use lib.Ieee.{Float, Format, nan, inf, fin, binary32, top, ones, hid, nan_bits, odd, of_fields, of_bits, to_bits, fits, is_nan, eq, ne}
-use lib.Ieee.Bits.{of_bits-to_bits, nan_bits_above, nan_bits_is}
-use lib.Ieee.Compare.{differs_from_itself}
+use lib.Ieee.{Float, Format, nan, inf, fin, binary32, top, ones, hid, nan_bits, odd, of_fields, of_bits, to_bits, fits, is_nan, eq}
+use lib.Ieee.Bits.{of_bits-to_bits, nan_bits_above}
 use Rattle.single.proofs.Booleans.{holds}
 use Rattle.single.specs.Single.{is_negative}
 
@@ -41,9 +39,6 @@ no_nan nan h = holds h
 no_nan (inf s) h = tt
 no_nan (fin s m e) h = tt
 
-pub is_nan_lem : (x : Float) → eq x x ≡ false → x ≡ nan
-is_nan_lem x h = differs_from_itself x (unfold ne in subst (λ (b : Bool). T (not b)) (sym h) tt)
-
 -- a pattern that is no NaN's, whatever its sign
 pub bits_no_nan : (f : Format) (n : ℕ) → n % top f ≤ ones f * hid f → T (not (nan_bits f n))
 bits_no_nan f n h = subst (λ (b : Bool). T (not b)) (sym (nan_bits_above f n)) (le→nltb (ones f * hid f) (n % top f) h)
@@ -51,15 +46,3 @@ bits_no_nan f n h = subst (λ (b : Bool). T (not b)) (sym (nan_bits_above f n)) 
 -- a finite number's pattern with the sign plus
 pub finite_bits : (n : ℕ) → n < 2139095040 → T (not (nan_bits binary32 n))
 finite_bits n h = bits_no_nan binary32 n (omega arith)
-
-pub finite_bits_no_nan : (n : ℕ) → n < 2139095040 → T (not (is_nan (of_bits binary32 n)))
-finite_bits_no_nan n h = subst (λ (b : Bool). T (not b)) (nan_bits_is binary32 n) (finite_bits n h)
-
--- and one that is a NaN's
-pub nan_bits_lem : (n : ℕ) → 2139095040 < n % 2147483648 → of_bits binary32 n ≡ nan
-nan_bits_lem n h = is_nan_of (of_bits binary32 n) (sym (nan_bits_is binary32 n) ∙ nan_bits_above binary32 n ∙ lt-ltb 2139095040 (n % 2147483648) h)
-  where
-    is_nan_of : (x : Float) → is_nan x ≡ true → x ≡ nan
-    is_nan_of nan e = refl
-    is_nan_of (inf s) e = absurd (unfold is_nan in holds e)
-    is_nan_of (fin s m k) e = absurd (unfold is_nan in holds e)

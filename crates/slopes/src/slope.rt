@@ -33,7 +33,7 @@ pub struct SlopingLegs {
 }
 
 // The other end's height in wavelengths, from the first extra: negative in wavelengths, any other
-// in metres.
+// in metres. Through lengths' Length it would make a phase that nothing takes.
 #[tactic(auto, unfolding(crate::specs::Slope::ht_of, single::proofs::Literals::round, single::proofs::Literals::of_bits))]
 fn ht_of(aex1: f32, wave: f32) -> f32
     ensures { result ≡ ht_of aex1 wave }

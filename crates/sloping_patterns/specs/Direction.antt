@@ -2,11 +2,9 @@
 use Rattle.std.specs.Prelude.{Float}
 use Rattle.std.specs.Float.Ieee.{neg}
 use Rattle.single.specs.Single.{◌⊞◌, ◌⊟◌, ◌⊠◌, num}
-use Rattle.elementary.specs.Trigonometric.{sine_cosine_of}
 use Rattle.angles.specs.declared.angles.Elevation.{Elevation}
 use Rattle.slopes.specs.declared.slope.Slope.{Slope}
 use Rattle.sloping_patterns.specs.declared.direction.Direction.{Direction}
-use Rattle.sloping_patterns.specs.declared.direction.ReflectedPhase.{ReflectedPhase}
 
 unfoldable pub direction_of : Slope → Elevation → Direction
 direction_of slope elevation =
@@ -30,8 +28,3 @@ direction_of slope elevation =
       u3 = num 1 1 ⊟ copsi3;
       u4 = num 1 1 ⊟ copsi4;
     }
-
--- w2 and w1, w4 and w3; hwave2 is twice hwave
-unfoldable pub reflected_of : Float → Float → Float → Float → ReflectedPhase
-reflected_of psih psiv hwave2 q =
-    record { horizontal = sine_cosine_of (psih ⊟ hwave2 ⊠ q); vertical = sine_cosine_of (psiv ⊟ hwave2 ⊠ q) }

@@ -7,10 +7,11 @@ use Rattle.trigonometric.specs.declared.trigonometric.SineCosine.{SineCosine}
 use Rattle.angles.specs.Angles.{pi}
 use Rattle.angles.specs.declared.angles.Elevation.{Elevation}
 use Rattle.reflection.specs.declared.ground.Ground.{Ground}
+use Rattle.reflection.specs.Ground.{reflected_of}
 use Rattle.slopes.specs.declared.slope.Slope.{Slope}
 use Rattle.sloping_patterns.specs.declared.direction.Field.{Field}
 use Rattle.sloping_patterns.specs.declared.rhombic.LegPair.{LegPair}
-use Rattle.sloping_patterns.specs.Direction.{direction_of, reflected_of}
+use Rattle.sloping_patterns.specs.Direction.{direction_of}
 
 -- a6 and b6 of u1 and u2, a7 and b7 of u3 and u4
 unfoldable pub leg_pair_of : Float → Float → Float → LegPair

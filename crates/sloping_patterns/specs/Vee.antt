@@ -6,12 +6,13 @@ use Rattle.elementary.specs.Trigonometric.{sine, cosine}
 use Rattle.trigonometric.specs.declared.trigonometric.SineCosine.{SineCosine}
 use Rattle.angles.specs.declared.angles.Elevation.{Elevation}
 use Rattle.reflection.specs.declared.ground.Ground.{Ground}
+use Rattle.reflection.specs.Ground.{reflected_of}
 use Rattle.slopes.specs.declared.slope.Slope.{Slope}
 use Rattle.sloping_patterns.specs.declared.direction.Direction.{Direction}
 use Rattle.sloping_patterns.specs.declared.direction.Field.{Field}
 use Rattle.sloping_patterns.specs.declared.vee.LegPhase.{LegPhase}
 use Rattle.sloping_patterns.specs.declared.vee.LegPhases.{LegPhases}
-use Rattle.sloping_patterns.specs.Direction.{direction_of, reflected_of}
+use Rattle.sloping_patterns.specs.Direction.{direction_of}
 
 -- z and v
 unfoldable pub leg_phase_of : Float → LegPhase
@@ -67,6 +68,7 @@ vertical_of d p w cv =
 unfoldable pub vee_rain : Slope → Elevation → Ground → Float
 vee_rain slope elevation earth =
     let d = direction_of slope elevation in
+    -- w2 and w1 are horizontal, w4 and w3 vertical; hwave2 is twice hwave
     let w = reflected_of earth.psih earth.psiv slope.hwave2 elevation.q in
     let p = leg_phases_of slope.fac2 d in
     let h = horizontal_of slope d p w.horizontal earth.ch in

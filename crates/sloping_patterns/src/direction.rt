@@ -1,9 +1,8 @@
-// What both patterns take of a cell: the direction against the legs, and the reflected phases.
+// What both patterns take of a cell: the direction against the legs.
 ghost use Rattle.std.specs.Prelude.{◌≡◌};
-ghost use Rattle.sloping_patterns.specs.Direction.{direction_of, reflected_of};
+ghost use Rattle.sloping_patterns.specs.Direction.{direction_of};
 
 use angles::Elevation;
-use elementary::SineCosine;
 use slopes::Slope;
 
 // 1 and 2 are the legs, 3 and 4 their images: `u` is 1 minus the cosine of the angle to the
@@ -20,14 +19,8 @@ pub struct Direction {
     pub u4: f32,
 }
 
-// Sine and cosine of the reflected phase, horizontal (`w2` and `w1`) and vertical (`w4` and `w3`).
-#[derive(Clone, Copy)]
-pub struct ReflectedPhase {
-    pub horizontal: SineCosine,
-    pub vertical: SineCosine,
-}
-
-// A field strength as a complex number. curtain's Sums takes the root of its square, no rain here does.
+// A field strength as a complex number. curtain's Sums is a sum over elements, with operations of its
+// own, and neither crate needs the other.
 #[derive(Clone, Copy)]
 pub struct Field {
     pub re: f32,
@@ -59,15 +52,5 @@ pub(crate) fn direction_of(slope: Slope, elevation: Elevation) -> Direction
         u2: 1.0 - copsi2,
         u3: 1.0 - copsi3,
         u4: 1.0 - copsi4,
-    }
-}
-
-#[tactic(auto, unfolding(crate::specs::Direction::reflected_of))]
-pub(crate) fn reflected_of(psih: f32, psiv: f32, hwave2: f32, q: f32) -> ReflectedPhase
-    ensures { result ≡ reflected_of psih psiv hwave2 q }
-{
-    ReflectedPhase {
-        horizontal: elementary::sin_cos(psih - hwave2 * q),
-        vertical: elementary::sin_cos(psiv - hwave2 * q),
     }
 }

@@ -2,10 +2,10 @@
 ghost use Rattle.std.specs.Prelude.{◌≡◌};
 ghost use Rattle.sloping_patterns.specs.Rhombic.{leg_pair_of, field_of, sloping_rhombic_rain};
 
-use crate::direction::{Direction, Field, direction_of, reflected_of};
+use crate::direction::{Direction, Field, direction_of};
 use angles::{Elevation, PI};
 use elementary::SineCosine;
-use reflection::Ground;
+use reflection::{Ground, reflected_of};
 use slopes::Slope;
 
 // What two legs, or their images, sum to: `a6` and `b6`, or `a7` and `b7`.

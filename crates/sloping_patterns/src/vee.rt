@@ -2,10 +2,10 @@
 ghost use Rattle.std.specs.Prelude.{◌≡◌};
 ghost use Rattle.sloping_patterns.specs.Vee.{leg_phase_of, leg_phases_of, horizontal_of, vertical_of, vee_rain};
 
-use crate::direction::{Direction, Field, direction_of, reflected_of};
+use crate::direction::{Direction, Field, direction_of};
 use angles::Elevation;
 use elementary::SineCosine;
-use reflection::Ground;
+use reflection::{Ground, reflected_of};
 use slopes::Slope;
 
 // Of the phase along a leg or an image: its cosine less 1, and its sine.

@@ -28,7 +28,7 @@ pub fn is_table(table: &[f32]) -> bool
     table.len() == TABLE_LENGTH
 }
 
-// Every number becomes x.
+// Every number becomes x: the library's, for those who name tables alone.
 #[tactic(auto, unfolding(crate::specs::Table::filled_with))]
 pub fn fill(table: &mut [f32], x: f32)
     ensures { table.new ≡ filled_with table.old x }
@@ -37,6 +37,7 @@ pub fn fill(table: &mut [f32], x: f32)
 }
 
 // A refused card's table: all zeros, or untouched if its length is wrong.
+#[tactic(auto, unfolding(single::proofs::Literals::round, single::proofs::Literals::of_bits, crate::specs::Table::is_table, crate::specs::Table::cleared, crate::specs::Table::refused_table))]
 pub fn clear_refused(table: &mut [f32])
     ensures { table.new ≡ refused_table table.old }
 {
@@ -45,7 +46,7 @@ pub fn clear_refused(table: &mut [f32])
     }
 }
 
-// 1 to 30 MHz, the first not above the last.
+// 1 to 30 MHz, the first not above the last: two numbers, since any two may be handed in.
 #[tactic(auto, unfolding(crate::specs::Range::is_range))]
 pub fn is_range(first: i32, last: i32) -> bool
     ensures { result ≡ is_range first last }

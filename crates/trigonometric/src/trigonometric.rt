@@ -47,6 +47,7 @@ fn turns_argument(x: f32) -> f32
 
 // The whole part of |t|, by its digits and its exponent's field: with a cast to i64 the sine takes 1.16 of
 // the Rust's time, and 0.91 so; along a row 1.74 and 1.16.
+#[tactic(auto, using(single::proofs::Booleans::holds, single::proofs::Magnitude::mag_no_nan, basic::proofs::Absolute::bits_absolute, basic::proofs::WholePart::absolute_mag, basic::proofs::WholePart::absolute_whole, basic::proofs::WholePart::whole_below, basic::proofs::WholePart::field_below, basic::proofs::WholePart::whole_none, basic::proofs::WholePart::whole_digits))]
 fn whole_part(t: f32) -> u32
     requires { Mag (2 ^ 21) t }
     ensures { (result ≡ whole_part t) × (result ≤ 2 ^ 21) }
@@ -104,6 +105,7 @@ fn rest_of(x: f32, n: f32) -> f32
     x - n * 1.5703125 - n * 0.00048351288 - n * 0.0000003138557
 }
 
+#[tactic(auto, using(crate::proofs::Reduction::argument_mag, crate::proofs::Reduction::reduction_is))]
 fn reduce(x: f32) -> Reduction
     requires { in_range x ≡ true }
     ensures { (result.quadrant.q ≡ quadrant_of (turns x)) × (result.rest ≡ reduced x) }
@@ -141,6 +143,7 @@ fn sine_at(quadrant: Quadrant, s: f32, c: f32) -> f32
 }
 
 // The cosine is the sine a quarter turn on.
+#[tactic(auto, using(crate::proofs::Reduction::ahead))]
 fn cosine_at(quadrant: Quadrant, s: f32, c: f32) -> f32
     ensures { result ≡ cosine_at quadrant.q s c }
 {
@@ -148,6 +151,7 @@ fn cosine_at(quadrant: Quadrant, s: f32, c: f32) -> f32
 }
 
 // One of the two parts alone: along a row of a table its choice is foreseen.
+#[tactic(auto, using(crate::proofs::Reduction::sine_even, crate::proofs::Reduction::sine_odd))]
 fn sine_of(quadrant: Quadrant, r: f32) -> f32
     ensures { result ≡ sine_at quadrant.q (sine_part r (mul binary32 r r)) (cosine_part (mul binary32 r r)) }
 {
@@ -162,6 +166,7 @@ fn sine_of(quadrant: Quadrant, r: f32) -> f32
 }
 
 // The sine that many quarter turns on from x.
+#[tactic(auto, unfolding(crate::specs::Turns::sine_ahead), using(crate::proofs::Reduction::in_range_is, crate::proofs::Reduction::out_of_range_is))]
 fn sine_ahead(x: f32, quarters: u32) -> f32
     requires { quarters < 4 }
     ensures { result ≡ sine_ahead quarters x }
@@ -174,12 +179,14 @@ fn sine_ahead(x: f32, quarters: u32) -> f32
     }
 }
 
+#[tactic(auto, using(crate::proofs::Reduction::sine_ahead_none))]
 pub fn sin(x: f32) -> f32
     ensures { result ≡ sine x }
 {
     sine_ahead(x, 0)
 }
 
+#[tactic(auto, using(crate::proofs::Reduction::sine_ahead_one))]
 pub fn cos(x: f32) -> f32
     ensures { result ≡ cosine x }
 {
@@ -187,6 +194,7 @@ pub fn cos(x: f32) -> f32
 }
 
 // Both, from one reduction.
+#[tactic(auto, unfolding(crate::specs::Trigonometric::sine, crate::specs::Trigonometric::cosine), using(crate::proofs::Reduction::in_range_is, crate::proofs::Reduction::out_of_range_is))]
 pub fn sin_cos(x: f32) -> SineCosine
     ensures { (result.sine ≡ sine x) × (result.cosine ≡ cosine x) × (result ≡ sine_cosine_of x) }
 {
@@ -206,6 +214,7 @@ pub fn sin_cos(x: f32) -> SineCosine
     }
 }
 
+#[tactic(auto, unfolding(crate::specs::Trigonometric::tangent))]
 pub fn tan(x: f32) -> f32
     ensures { result ≡ tangent x }
 {

@@ -26,11 +26,11 @@ pub fn digit(b: u8) -> u32
 pub fn hex(field: &[u8]) -> u32
     ensures { result ≡ hex_of field.now }
 {
-    let mut n: u64 = 0;
+    let mut n: u32 = 0;
     for &b in field {
-        n = (n * 16 + digit(b) as u64) % 4294967296;
+        n = n.wrapping_mul(16).wrapping_add(digit(b));
     }
-    n as u32
+    n
 }
 
 // The i32 with these bits.

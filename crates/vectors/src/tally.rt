@@ -5,7 +5,7 @@ ghost use Rattle.vectors.specs.Counting.{one_more, counted_of};
 // A program stops here.
 pub const MOST_LINES: u64 = 1000000;
 
-#[derive(Clone, Copy)]
+#[derive(Clone, Copy, Default)]
 pub struct Tally {
     pub compared: u64,
     pub differ: u64,

@@ -16,8 +16,8 @@ use resistance::resistance_of;
 // The radiation resistance at 0.2 wavelengths.
 const RINTW: f32 = 18.06;
 
-// What a row's cells take: the height in wavelengths `x`, its phase with cosine and sine, and the
-// radiation resistance.
+// The height in wavelengths `x`, which the row has and no cell takes, its phase with cosine and sine, by
+// the Rust's names, and the radiation resistance.
 #[derive(Clone, Copy)]
 pub struct Monopole {
     pub x: f32,
@@ -64,6 +64,7 @@ fn not_zero(v: f32) -> f32
     if v == 0.0 { 0.00000001 } else { v }
 }
 
+#[tactic(auto, unfolding(single::proofs::Literals::round, single::proofs::Literals::of_bits, crate::specs::Monopole::monopole_rain))]
 pub fn monopole_rain(row: Monopole, elevation: Elevation, earth: Ground) -> f32
     ensures { result ≡ monopole_rain row elevation earth }
 {

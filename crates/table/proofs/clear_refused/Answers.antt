@@ -13,7 +13,3 @@ unfolding refused_table cleared is_table round of_bits
 returns-then-is_table c =
     let t : is_table c.args.table.now ≡ true = sym c.is_table.ensures ∙ c.if-is_table.true in
     rw t (c.fill.ensures.after (search rules) ∙ ap (λ k. replicate k (num 0 1)) (eqb-true _ table_length t))
-
-pub returns-else-is_table : goal.returns-else-is_table
-unfolding refused_table
-returns-else-is_table c = rw (← c.is_table.ensures, c.if-is_table.false)

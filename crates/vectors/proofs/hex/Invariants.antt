@@ -1,7 +1,6 @@
 use mathlib.Core.Path.{◌≡◌}
-use Prim.Native.Nat.{◌^◌, ◌<◌}
 use Rattle.vectors.specs.Line.{hex_to}
 use Rattle.vectors.proofs.hex.Given as goal
 
 abbrev pub invariant-loop-b : goal.invariant-loop-b
-invariant-loop-b l = (l.n < 2 ^ 32) × (l.n ≡ hex_to l.field l.b-index)
+invariant-loop-b l = l.n ≡ hex_to l.field l.b-index

@@ -1,7 +1,7 @@
 use mathlib.Core.Path.{◌≡◌, sym, subst, ap, ◌∙◌}
 use mathlib.Core.Bool.{true, false}
 use Prim.Native.Nat.{ℕ, ◌+◌, ◌-◌, ◌*◌, ◌/◌, ◌%◌, ◌^◌, ◌≤◌, ◌<◌, min}
-use native.Mathlib.Nat.{le_trans}
+use native.Mathlib.Nat.{le_trans, min-eq_left}
 use native.Mathlib.Omega.{arith}
 use borrow.Author.Tests.{lt-leb}
 use lib.Dec.{T, lit≤}
@@ -18,14 +18,11 @@ use Rattle.basic.specs.WholePart.{whole_part}
 use Rattle.basic.proofs.WholePart.{whole_below, field_below, whole_digits}
 use Rattle.antenna.proofs.places.cut.Goals as goal
 
-min-left : (a b : ℕ) → a ≤ b → min a b ≡ a
-min-left a b h = omega arith
-
 plus : (x : Float) → Mag (2 ^ 21) x → is_negative x ≡ false → pos (whole_part x) ≡ cut_toward x
 unfolding cut_toward to_signed
 plus nan m h = absurd m
 plus (inf s) m h = absurd m
-plus (fin false n e) m h = ap pos (sym (min-left (n * up e / down e) (2 ^ 31 - 1) (le_trans (whole_below (fin false n e) (2 ^ 21) m) (lit≤ tt))))
+plus (fin false n e) m h = ap pos (sym (min-eq_left (le_trans (whole_below (fin false n e) (2 ^ 21) m) (lit≤ tt))))
 plus (fin true n e) m h = absurd (subst T h tt)
 
 module _ (x : Float) (m : Mag (2 ^ 21) x) (f : T (fits binary32 x)) (low : 1065353216 ≤ to_bits binary32 x) (high : to_bits binary32 x < 2147483648) where
@@ -44,14 +41,8 @@ module _ (x : Float) (m : Mag (2 ^ 21) x) (f : T (fits binary32 x)) (low : 10653
   whole : pos ((8388608 + b % 8388608) / 2 ^ (150 - b / 8388608)) ≡ cut_toward x
   whole = ap pos digits ∙ plus x m (sym (sign_bit x f (mag_no_nan (2 ^ 21) x m)) ∙ lt-leb 2147483648 b high)
 
-pub float_to_bits-b : goal.float_to_bits-b
-float_to_bits-b c = mag_no_nan (2 ^ 21) c.args.x c.requires
-
 pub overflow_sub-result : goal.overflow_sub-result
 overflow_sub-result c = field c.args.x c.requires (subst T (sym c.well_formed.0.1) tt) c.if-b-ge1065353216.true c.if-b-lt2147483648.true
-
-pub overflow_cast-result : goal.overflow_cast-result
-overflow_cast-result c = let h = small c.args.x c.requires (subst T (sym c.well_formed.0.1) tt) c.if-b-ge1065353216.true c.if-b-lt2147483648.true in record { sfits = omega (arith, h) }
 
 pub returns-then-b-lt2147483648 : goal.returns-then-b-lt2147483648
 returns-then-b-lt2147483648 c =

@@ -11,7 +11,7 @@ use Rattle.elementary.specs.Basic.{cut_toward}
 use Rattle.table.specs.Table.{row_count, column_count}
 use Rattle.antenna.specs.Places.{r2d, clamped, next_of, place_of}
 use Rattle.antenna.proofs.Clamps.{clamped_is, next_is}
-use Rattle.antenna.proofs.Cuts.{within_mag, degrees_mag, cut-kept}
+use Rattle.antenna.proofs.Cuts.{cut-kept}
 use Rattle.antenna.proofs.places.locate.Goals as goal
 
 -- n and m are the MHz and the degrees plus 1, cut
@@ -21,13 +21,6 @@ placed : (fmc delta : Float) (n m : ℤ) (i j ip1 jp1 : ℕ) → n ≡ cut_towar
     record { i = i; ip1 = ip1; xfmc = fmc ⊟ of_int binary32 n; j = j; jp1 = jp1; xdelta = xdelta } ≡ place_of fmc delta
 unfolding place_of
 placed fmc delta n m i j ip1 jp1 a b d e f g = rw (← a, ← b, ← d, ← e, ← f, ← g)
-
-pub cut-cut_fmc-requires : goal.cut-cut_fmc-requires
-cut-cut_fmc-requires c = within_mag _ c.requires.0
-
-pub cut-requires : goal.cut-requires
-unfolding round of_bits
-cut-requires c = degrees_mag _ c.requires.1
 
 pub int_to_float-result : goal.int_to_float-result
 int_to_float-result c =

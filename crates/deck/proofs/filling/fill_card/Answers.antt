@@ -2,14 +2,8 @@ use mathlib.Core.Path.{refl}
 use native.Mathlib.Omega.{arith}
 use Rattle.std.proofs.lemmas.Result.{err_from_is_err_and}
 use Rattle.deck.proofs.BeforeWork.{number_not_zero}
-use Rattle.deck.proofs.CardRows.{rows_of, rows_read, rows_start, rows_step, rows_last, rows_stop, rows_end}
+use Rattle.deck.proofs.CardRows.{rows_read, rows_start, rows_step, rows_last, rows_stop}
 use Rattle.deck.proofs.filling.fill_card.Goals as goal
-
-pub overflow_cast-first : goal.overflow_cast-first
-overflow_cast-first c = (rows_of _ _ c.read_card-card.ensures c.requires).first_fits
-
-pub overflow_cast-last : goal.overflow_cast-last
-overflow_cast-last c = (rows_of _ _ c.read_card-card.ensures c.requires).last_fits
 
 pub loop-m-init : goal.loop-m-init
 loop-m-init c = λ f of. rows_start _ _ _ f of _ _
@@ -29,8 +23,3 @@ pub returns-in_ok-x : goal.returns-in_ok-x
 returns-in_ok-x c =
     let of = rows_read _ _ _ c.read_card-card.ensures c.card_antenna-antenna.ensures c.requires in
     rows_last _ _ _ _ of _ _ _ _ _ _ _ _ (c.loop-m.invariant _ of) c.loop-m.auto.m c.loop-m-test.true c.in_ok-x.ensures refl (omega arith)
-
-pub returns : goal.returns
-returns c =
-    let of = rows_read _ _ _ c.read_card-card.ensures c.card_antenna-antenna.ensures c.requires in
-    rows_end _ _ _ _ of _ _ _ _ _ (c.loop-m.invariant _ of) c.loop-m-test.false

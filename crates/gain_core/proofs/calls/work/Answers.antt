@@ -9,9 +9,9 @@ pub returns-then-without_row : goal.returns-then-without_row
 unfolding work_of at_ground round of_bits
 returns-then-without_row c = all_answers _ _ _ _ _ _ (grind (arith, common_steps))
 
-pub returns-in_err-row : goal.returns-in_err-row
+pub returns-in_err-settled : goal.returns-in_err-settled
 unfolding work_of at_ground above_ground round of_bits
-returns-in_err-row c = all_answers _ _ _ _ _ _ (grind (arith, common_steps))
+returns-in_err-settled c = all_answers _ _ _ _ _ _ (grind (arith, common_steps))
 
 pub returns-then-delta : goal.returns-then-delta
 unfolding work_of at_ground round of_bits

@@ -1,4 +1,6 @@
+use mathlib.Core.Path.{ap}
 use lib.Ieee.{round, of_bits}
+use Rattle.std.specs.Prelude.{Some}
 use Rattle.integrals.specs.Cisi.{integrals_of}
 use Rattle.integrals.proofs.Refusal.{integrals_answers}
 use Rattle.integrals.proofs.entry.integrals_of.Goals as goal
@@ -23,4 +25,4 @@ returns-then-x c = integrals_answers c.args.x _ (rw (c.if-x.true, ← c.ci_serie
 
 pub returns : goal.returns
 unfolding integrals_of round of_bits
-returns c = integrals_answers c.args.x _ (rw (c.if-x.false, ← c.rational.ensures))
+returns c = integrals_answers c.args.x _ (rw (c.if-x.false, ← c.rational.ensures) (ap Some c.at_once.ensures))

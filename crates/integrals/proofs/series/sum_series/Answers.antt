@@ -8,7 +8,7 @@ use Rattle.std.specs.Prelude.{Option, Some, None}
 use Rattle.single.specs.Single.{◌⊞◌, num}
 use Rattle.elementary.specs.Basic.{absolute}
 use Rattle.integrals.specs.declared.series.SeriesSum.{SeriesSum}
-use Rattle.integrals.specs.Series.{most_turns, series_from, series_of, next_term}
+use Rattle.integrals.specs.Series.{most_turns, series_from, next_term}
 use Rattle.integrals.proofs.series.sum_series.Goals as goal
 
 settled : (m n : ℕ) (sum term g sq : Float) → series_from m true n sum term g sq ≡ Some (record { sum = sum; turns = n })
@@ -35,10 +35,6 @@ module _ (k : ℕ) (sum term g sq a : Float) (r : Option SeriesSum) (below : k <
       let none : most_turns - (k + 1) ≡ 0 = omega arith in
       rw none at (turn false t)
 
-pub loop-init : goal.loop-init
-unfolding series_of
-loop-init c = (omega arith, refl)
-
 pub loop-preserved : goal.loop-preserved
 unfolding round of_bits
 loop-preserved c =
@@ -50,9 +46,3 @@ unfolding round of_bits
 returns-then-abs c =
     let l = c.loop in
     stop _ _ _ _ _ _ _ l.invariant.0 c.abs.ensures l.invariant.1 c.if-abs.true
-
-pub returns-then-turns-ge-MOST_TURNS : goal.returns-then-turns-ge-MOST_TURNS
-unfolding round of_bits
-returns-then-turns-ge-MOST_TURNS c =
-    let l = c.loop in
-    fail _ _ _ _ _ _ _ l.invariant.0 c.abs.ensures l.invariant.1 c.if-abs.false c.if-turns-ge-MOST_TURNS.true

@@ -6,7 +6,7 @@ use native.Mathlib.Omega.{arith}
 use lib.ListN.{length, drop, get_or}
 use lib.Seq.{drop-cons, drop-length}
 use lib.Ieee.{Float, nan, le}
-use Rattle.inverted_cone.specs.InvertedCone.{upper_from, upper_of}
+use Rattle.inverted_cone.specs.InvertedCone.{upper_from}
 use Rattle.inverted_cone.proofs.cone.upper.Goals as goal
 
 module _ (x : Float) (bounds : List Float) (i : ℕ) where
@@ -42,7 +42,3 @@ loop-i-preserved c =
     let e = passed _ c.args.bounds.now (l.i - 1) (omega arith) c.if-x-bounds.false in
     let s : suc (l.i - 1) ≡ l.i = omega arith in
     (omega arith, omega arith, omega arith, omega arith, l.invariant.4 ∙ rw s at e)
-
-pub returns : goal.returns
-unfolding upper_of
-returns c = let l = c.loop-i in let e : l.i ≡ 1 = omega arith in (rw e at l.invariant.4, l.invariant.2, l.invariant.3)

@@ -24,13 +24,13 @@ returns-in_err-call_refusal c =
     let p = err_from_is_err_and c.from_residual.result c.from_residual.ensures.1 in
     refused_answers c.args.call c.args.height c.call_refusal.ensures _ c.in_err-call_refusal.was (rw (p.1, p.2))
 
-pub returns-in_err-call : goal.returns-in_err-call
-returns-in_err-call c =
-    let p = err_from_is_err_and c.from_residual-in_err-call.result c.from_residual-in_err-call.ensures.1 in
+pub returns-in_err-worked : goal.returns-in_err-worked
+returns-in_err-worked c =
+    let p = err_from_is_err_and c.from_residual-in_err-worked.result c.from_residual-in_err-worked.ensures.1 in
     worked_answers c.args.call c.args.height c.call_refusal.ensures _ c.in_ok-call_refusal.was
-    (rw (p.1, p.2, worked (goal.at.returns-in_err-call c).After-work) (worked_err c.work.result (sym c.ok_or.ensures.value ∙ c.in_err-call.was)))
+    (rw (p.1, p.2, worked (goal.at.returns-in_err-worked c).After-work) (worked_err c.work.result (sym c.ok_or.ensures.value ∙ c.in_err-worked.was)))
 
 pub returns : goal.returns
 returns c =
     worked_answers c.args.call c.args.height c.call_refusal.ensures _ c.in_ok-call_refusal.was
-    (rw (worked (goal.at.returns c).After-work) (worked_ok c.work.result (sym c.ok_or.ensures.value ∙ c.in_ok-call.was)))
+    (rw (worked (goal.at.returns c).After-work) (worked_ok c.work.result (sym c.ok_or.ensures.value ∙ c.in_ok-worked.was)))

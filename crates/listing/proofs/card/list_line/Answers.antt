@@ -3,28 +3,30 @@ use mir.ValLaws.{to_z-of_z}
 use Rattle.refusals.specs.Refusals.{outcome_number}
 use Rattle.listing.specs.declared.session.Session.{Session}
 use Rattle.listing.specs.declared.writing.Writer.{Writer}
+use Rattle.deck.specs.Run.{line_in}
 use Rattle.listing.specs.Card.{LineListed}
 use Rattle.listing.specs.Text.{heading_text}
 use Rattle.listing.specs.Written.{Written}
-use Rattle.listing.specs.Listing.{line_in, rows_by}
+use Rattle.listing.specs.Listing.{rows_by}
 use Rattle.listing.proofs.Cards.{line_listed}
-use Rattle.listing.proofs.Entries.{accepted, accepted_number, refused_number, accepted_by, refused_rows, malformed_rows}
+use Rattle.listing.proofs.Entries.{line_run, accepted, accepted_number, refused_number, accepted_by, refused_rows, malformed_rows}
 use Rattle.listing.proofs.Buffer.{renamed}
 use Rattle.listing.proofs.card.list_line.Goals as goal
 use Rattle.listing.proofs.card.list_line.Goals.{After-heading, in_default-via-in-None-1, in_default-via-in-Some+else-is_ok}
 
 pub rows-requires-clause-accepted : goal.rows-requires-clause-accepted
-rows-requires-clause-accepted c = accepted _ _ _ _ _ _ c.run_line-verdict.ensures c.in-Some.is (accepted_number _ (sym c.is_ok.ensures.value ∙ c.if-is_ok.true))
+rows-requires-clause-accepted c = accepted _ _ _ _ _ _ (line_run _ _ _ _ _ _ (search rules) c.run_entry-verdict.ensures.entry_done) c.in-Some.is (accepted_number _ (sym c.is_ok.ensures.value ∙ c.if-is_ok.true))
 
 -- what a line's listing owes after the heading: its rows, if it has any
-listed : (c : After-heading) (w : Writer) → let r = c.run_line-verdict in
+listed : (c : After-heading) (w : Writer) → let r = c.run_entry-verdict in
     let next : Session = record { deck = r.result.deck; listed = c.count-listed.result; held = 0 } in
     Written c.heading.new.self (rows_by (line_in c.read_line-card.result) r.new.table (outcome_number r.result.verdict)) w → w.at ≤ c.heading.new.self.at + 540
     → LineListed c.args.session c.args.line.now c.args.table.now r.new.table c.args.to.now w next
 listed c w rows within =
     let kop = to_z-of_z w32 _ (search rules) ∙ c.card_type.ensures in
     let heading = renamed c.heading.ensures (ap (heading_text _ _) c.verdict_number-number.ensures) in
-    line_listed _ _ _ _ _ _ _ _ _ _ _ c.count-listed.ensures _ c.read_line-card.ensures kop c.run_line-verdict.ensures heading rows within
+    let run = line_run _ _ _ _ _ _ (search rules) c.run_entry-verdict.ensures.entry_done in
+    line_listed _ _ _ _ _ _ _ _ _ _ _ c.count-listed.ensures _ c.read_line-card.ensures kop run heading rows within
 
 pub returns-then-is_ok : goal.returns-then-is_ok
 returns-then-is_ok c =

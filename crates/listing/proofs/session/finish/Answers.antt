@@ -1,36 +1,40 @@
-use Rattle.std.proofs.Common.{refl, [], arith, rules}
-use Rattle.std.proofs.lemmas.Bool.{iff_false}
-use Rattle.std.proofs.lemmas.Option.{MatchOption-at_none}
-use Rattle.listing.specs.Ready.{Ready}
+use Rattle.std.proofs.Common.{refl, sym, ◌∙◌, [], arith, rules}
+use Rattle.std.proofs.lemmas.Option.{MatchOption-at_some}
+use Rattle.listing.proofs.Ready.{tested, is_there}
 use Rattle.listing.proofs.Sessions.{finish_idle, finish_empty, finish_held}
 use Rattle.listing.proofs.session.finish.Goals as goal
-use Rattle.listing.proofs.session.finish.Goals.{In-Some-as_mut_array}
 
-pub returns-then-not-has_room : goal.returns-then-not-has_room
-returns-then-not-has_room c = finish_idle _ _ _ _ _ (λ r. iff_false c.has_room.ensures c.if-not-has_room.true r.room)
+pub returns-then-not-is_ready : goal.returns-then-not-is_ready
+returns-then-not-is_ready c = finish_idle _ _ _ _ _ (sym c.is_ready.ensures ∙ c.if-not-is_ready.true)
 
-pub returns-in_default : goal.returns-in_default
-returns-in_default c = finish_idle _ _ _ _ _ (λ r. MatchOption-at_none _ _ c.in_default.is c.as_array.ensures.cases r.line_length)
+pub unwrap-buffer-requires : goal.unwrap-buffer-requires
+unwrap-buffer-requires c = is_there _ _ _ c.as_array.ensures.cases (λ n. n (tested _ _ _ _ c.is_ready.ensures c.if-not-is_ready.false).line_length)
 
-pub returns-in_default-as_mut_array : goal.returns-in_default-as_mut_array
-returns-in_default-as_mut_array c = finish_idle _ _ _ _ _ (λ r. MatchOption-at_none _ _ c.in_default-as_mut_array.is c.as_mut_array.ensures.cases r.table_len)
+pub unwrap-cells-requires : goal.unwrap-cells-requires
+unwrap-cells-requires c = is_there _ _ _ c.as_mut_array.ensures.cases (λ n. n (tested _ _ _ _ c.is_ready.ensures c.if-not-is_ready.false).table_len)
 
--- past the three tests
-ready : (c : In-Some-as_mut_array) → let a = c.args in Ready a.line.now a.table.now a.out.now a.at
-ready c =
-    let table = c.in-Some-as_mut_array.ensures.cases in
-    record { line_length = c.in-Some.ensures.cases.long; table_len = table.long; room = c.has_room.ensures.0 c.if-not-has_room.false }
+pub counts-requires : goal.counts-requires
+counts-requires c = omega (arith, (tested _ _ _ _ c.is_ready.ensures c.if-not-is_ready.false).room)
 
 pub returns-then-held-eq0 : goal.returns-then-held-eq0
 returns-then-held-eq0 c =
-    let r = ready (goal.at.returns-then-held-eq0 c).In-Some-as_mut_array in
-    rw c.in-Some-as_mut_array.ensures.cases.same
+    let r = tested _ _ _ _ c.is_ready.ensures c.if-not-is_ready.false in
+    let cells = MatchOption-at_some _ _ _ c.unwrap-cells.ensures c.as_mut_array.ensures.cases in
+    rw cells.same
     (finish_empty _ _ _ _ _ r _ _ _ _ c.held_in-held.ensures c.if-held-eq0.true refl refl c.counts.ensures (search rules))
 
+pub list_line-last-requires : goal.list_line-last-requires
+list_line-last-requires c = omega (arith, (tested _ _ _ _ c.is_ready.ensures c.if-not-is_ready.false).room)
+
 pub counts-requires-2 : goal.counts-requires-2
-counts-requires-2 c = omega (arith, c.list_line-last.ensures.within, (c.list_line-last.ensures.text []).text.long, c.has_room.ensures.0 c.if-not-has_room.false)
+counts-requires-2 c =
+    let r = tested _ _ _ _ c.is_ready.ensures c.if-not-is_ready.false in
+    omega (arith, c.list_line-last.ensures.within, (c.list_line-last.ensures.text []).text.long, r.room)
 
 pub returns : goal.returns
 returns c =
-    finish_held _ _ _ _ _ (ready (goal.at.returns c).In-Some-as_mut_array) _ _ _ _ _ refl refl c.counts-2.ensures _ _ c.held_in-held.ensures c.if-held-eq0.false
-    (rw (c.in-Some.ensures.cases.same, c.in-Some-as_mut_array.ensures.cases.same) at c.list_line-last.ensures) (search rules)
+    let r = tested _ _ _ _ c.is_ready.ensures c.if-not-is_ready.false in
+    let buffer = MatchOption-at_some _ _ _ c.unwrap-buffer.ensures c.as_array.ensures.cases in
+    let cells = MatchOption-at_some _ _ _ c.unwrap-cells.ensures c.as_mut_array.ensures.cases in
+    finish_held _ _ _ _ _ r _ _ _ _ _ refl refl c.counts-2.ensures _ _ c.held_in-held.ensures c.if-held-eq0.false
+    (rw (buffer.same, cells.same) at c.list_line-last.ensures) (search rules)

@@ -5,7 +5,6 @@ use lib.Dec.{lit≤}
 use lib.Ieee.{binary32, of_bits, to_bits}
 use lib.Ieee.Bits.{of_bits-to_bits}
 use Rattle.single.proofs.Booleans.{holds}
-use Rattle.single.proofs.Magnitude.{mag_no_nan}
 use Rattle.basic.specs.Basic.{absolute}
 use Rattle.basic.proofs.Absolute.{bits_absolute}
 use Rattle.basic.proofs.WholePart.{absolute_mag, absolute_whole, whole_below, field_below, whole_none, whole_digits}
@@ -15,9 +14,6 @@ use Rattle.trigonometric.proofs.trigonometric.whole_part.Goals.{Start}
 -- the pattern without its sign bit is the magnitude's
 pattern : (c : Start) → of_bits binary32 (to_bits binary32 c.args.t % 2147483648) ≡ absolute c.args.t
 pattern c = bits_absolute (to_bits binary32 c.args.t) ∙ ap absolute (of_bits-to_bits binary32 c.args.t (holds c.well_formed.0.1))
-
-pub float_to_bits-b : goal.float_to_bits-b
-float_to_bits-b c = mag_no_nan (2 ^ 21) c.args.t c.requires
 
 pub overflow_sub-result : goal.overflow_sub-result
 overflow_sub-result c = let t = c.args.t in field_below (absolute t) (to_bits binary32 t % 2147483648) (omega arith) (pattern c.before) (absolute_mag t (2 ^ 21) c.requires)

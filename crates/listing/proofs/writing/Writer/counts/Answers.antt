@@ -7,6 +7,6 @@ use Rattle.listing.proofs.writing.Writer.counts.Goals as goal
 pub returns : goal.returns
 unfolding counts_text
 returns c =
-    let accepted = unsigned c.args.accepted 7 (search rules) c.integer.ensures in
-    let refused = unsigned c.args.refused 7 (search rules) c.integer-2.ensures in
+    let accepted = unsigned c.args.deck.accepted 7 (search rules) c.integer.ensures in
+    let refused = unsigned c.args.deck.refused 7 (search rules) c.integer-2.ensures in
     after (after accepted refused) c.line_feed.ensures

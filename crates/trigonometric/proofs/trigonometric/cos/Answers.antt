@@ -1,6 +1,0 @@
-use mathlib.Core.Path.{◌∙◌}
-use Rattle.trigonometric.proofs.Reduction.{sine_ahead_one}
-use Rattle.trigonometric.proofs.trigonometric.cos.Goals as goal
-
-pub returns : goal.returns
-returns c = c.sine_ahead.ensures ∙ sine_ahead_one _
