@@ -29,7 +29,7 @@ degrees_mag delta h =
     let degrees = mul_mag delta r2d 1000 64 16 refl (L.within_mag delta h) (lit≤ tt) (lit≤ tt) in
     wider (2 ^ 17) (lit≤ tt) _ (add_mag (delta ⊠ r2d) (num 1 1) (2 ^ 16) 1 17 refl degrees (lit≤ tt) (lit≤ tt))
 
-pub cut-kept : (x : Float) → outside x ≡ false → T (in_float binary32 (cut_toward x))
-cut-kept x h =
+pub cut_kept : (x : Float) → outside x ≡ false → T (in_float binary32 (cut_toward x))
+cut_kept x h =
     let m : Mag (2 ^ 21) x = within_mag x h in
     subst (λ (z : ℤ). T (in_float binary32 z)) (sym (cut_parts x m)) (signed_float (lt x (of_bits binary32 0)) (whole_part x) (whole_below x (2 ^ 21) m))

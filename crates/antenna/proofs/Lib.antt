@@ -6,3 +6,4 @@ pub mod CardRows
 pub mod Between
 pub mod FilledRows
 pub mod ByteTables
+pub mod Names

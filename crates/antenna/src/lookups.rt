@@ -43,6 +43,7 @@ pub fn gain_lookup_in_bytes(bytes: &[u8], fmc: f32, delta: f32) -> Result<GainEf
 // By the card's first and last MHz and its verdict: only the rows that it filled are read, outside its
 // range the nearest one, and a refused card gives zeros. Numbers still: a caller may hold any, and a
 // narrower type would ask more of it; a struct of the three would be made only to be handed on.
+#[tactic(auto, unfolding(single::proofs::Literals::round, single::proofs::Literals::of_bits, crate::specs::Lookups::card_lookup_of), using(table::proofs::Range::range_of_lem, lookup_refusals::proofs::Accepted::card_accepted, crate::proofs::Names::card_range, crate::proofs::Bounds::low_in, crate::proofs::Bounds::high_in, crate::proofs::CardRows::end_fits, crate::proofs::Wholes::card_answer_values, refusals::proofs::Refusals::accepted, refusals::proofs::Refusals::answered_err, refusals::proofs::Refusals::answered_ok))]
 pub fn card_lookup(
     first: i32,
     last: i32,

@@ -34,7 +34,7 @@ fn cut(x: f32) -> i32
 }
 
 // The indices are clamped, the fractions are not.
-#[tactic(auto, unfolding(single::proofs::Literals::round, single::proofs::Literals::of_bits), using(crate::proofs::Cuts::within_mag, crate::proofs::Cuts::degrees_mag))]
+#[tactic(auto, unfolding(single::proofs::Literals::round, single::proofs::Literals::of_bits, crate::specs::Places::place_of), using(crate::proofs::Clamps::clamped_is, crate::proofs::Clamps::next_is, crate::proofs::Cuts::cut_kept, crate::proofs::Cuts::within_mag, crate::proofs::Cuts::degrees_mag))]
 pub(crate) fn locate(fmc: f32, delta: f32) -> Place
     requires { (outside fmc ≡ false) × (outside delta ≡ false) }
     ensures { result ≡ place_of fmc delta }

@@ -60,6 +60,7 @@ pub fn inverted_l_row(fac: f32, hwave: f32) -> Option<Settled<InvertedL>>
 }
 
 // The leg's part.
+#[tactic(auto, unfolding(single::proofs::Literals::round, single::proofs::Literals::of_bits, reflection::specs::Ground::with_image, crate::specs::InvertedL::g2_of), using(crate::proofs::Names::sum_comm))]
 fn g2(row: InvertedL, azimuth: Azimuth, elevation: Elevation, earth: Ground) -> f32
     ensures { result ≡ g2_of row azimuth elevation earth }
 {

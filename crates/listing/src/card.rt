@@ -35,6 +35,7 @@ fn card_type(line: Option<Fields>) -> i32
 }
 
 // Of an accepted card.
+#[tactic(auto, unfolding(cards::specs::Card::card_of), using(crate::proofs::Printed::rows_length, crate::proofs::Entries::back, crate::proofs::Entries::rows_in, crate::proofs::Entries::accepted_rows))]
 fn rows(fields: Fields, table: &Table, to: &mut Writer)
     requires accepted { fields_refusal fields ≡ 0 }
     requires room { HasRoom to.old 540 }

@@ -73,6 +73,7 @@ impl Writer<'_> {
     }
 
     // From `first` to `last` MHz.
+    #[tactic(auto, using(crate::proofs::Printed::rows_start, crate::proofs::Printed::rows_room, crate::proofs::Printed::rows_step, crate::proofs::Printed::rows_last))]
     pub(crate) fn rows(&mut self, table: &Table, first: usize, last: usize)
         requires { (1 ≤ first) × (first ≤ last) × (last ≤ row_count) × HasRoom self.old 540 }
         ensures { Written self.old (rows_text table.now first (last + 1 - first)) self.new }

@@ -1,5 +1,4 @@
 use mathlib.Core.Path.{◌≡◌, sym, ap, ◌∙◌}
-use native.Mathlib.Omega.{arith}
 use lib.Ieee.{Float, round, of_bits}
 use lib.IntN.{ℤ}
 use mathlib.Core.List.{List}
@@ -16,10 +15,8 @@ use Rattle.refusals.specs.Refusals.{IsJudged}
 use Rattle.refusals.proofs.Refusals as R
 use Rattle.table.proofs.Range.{Range, range_of_lem}
 use Rattle.lookup_refusals.specs.LookupRefusals.{card_refusal}
-use Rattle.lookup_refusals.proofs.Accepted.{card_accepted, card-range}
+use Rattle.lookup_refusals.proofs.Accepted.{card-range}
 use Rattle.antenna.specs.Lookups.{lookup_values, card_lookup_of}
-use Rattle.antenna.proofs.Bounds.{low_in, high_in}
-use Rattle.antenna.proofs.CardRows.{end_fits}
 use Rattle.antenna.proofs.Wholes.{card_answer_values}
 use Rattle.antenna.proofs.lookups.card_lookup.Goals as goal
 
@@ -50,35 +47,6 @@ returns-then-verdict-ne0-clause-value c =
 
 pub returns-then-verdict-ne0-clause-values : goal.returns-then-verdict-ne0-clause-values
 returns-then-verdict-ne0-clause-values c = ap lookup_values (returns-then-verdict-ne0-clause-value c) ∙ card_answer_values _ _ _ _ _ _
-
-pub locate-at-requires : goal.locate-at-requires
-locate-at-requires c =
-    let a = card_accepted _ _ _ _ _ _ (R.accepted c.card_refusal.ensures c.in_ok-card_refusal.was) in
-    (a.1, a.2)
-
-pub overflow_cast-first : goal.overflow_cast-first
-overflow_cast-first c =
-    let r = ranged _ _ _ _ _ _ (back _ _ _ _ _ _ c.ranges.first c.ranges.last c.card_refusal.ensures) c.in_ok-card_refusal.was c.if-verdict-ne0.false in
-    end_fits _ _ (to_z-of_z w32 _ c.ranges.first) r.first_whole (omega (arith, r.order, r.high))
-
-pub overflow_cast-last : goal.overflow_cast-last
-overflow_cast-last c =
-    let r = ranged _ _ _ _ _ _ (back _ _ _ _ _ _ c.ranges.first c.ranges.last c.card_refusal.ensures) c.in_ok-card_refusal.was c.if-verdict-ne0.false in
-    end_fits _ _ (to_z-of_z w32 _ c.ranges.last) r.last_whole r.high
-
-pub invariant_of-reading : goal.invariant_of-reading
-invariant_of-reading c =
-    let at = c.locate-at.ensures in
-    record {
-      table_len = (card_accepted _ _ _ _ _ _ (R.accepted c.card_refusal.ensures c.in_ok-card_refusal.was)).0;
-      low_in = rw at (low_in _ _);
-      high_in = rw at (high_in _ _);
-    }
-
-pub from_filled_rows-requires : goal.from_filled_rows-requires
-from_filled_rows-requires c =
-    let r = ranged _ _ _ _ _ _ (back _ _ _ _ _ _ c.ranges.first c.ranges.last c.card_refusal.ensures) c.in_ok-card_refusal.was c.if-verdict-ne0.false in
-    rw (to_z-of_z w32 _ c.ranges.first, to_z-of_z w32 _ c.ranges.last) (r.low, r.order, r.high)
 
 pub returns-clause-value : goal.returns-clause-value
 unfolding card_lookup_of
