@@ -19,7 +19,8 @@ held_all n line h = ap (λ (k : ℕ). take (min n k) line) (sym h) ∙ take_min 
 
 -- ---- one byte into the buffer
 abbrev Grows : List ℕ → List ℕ → ℕ → ℕ → ℕ → Type 0
-Grows line line' held r b = (take r line' ≡ grown (take held line) b) × ((length line' ≡ 120) × (r ≤ 120)) × (held ≤ r) × (drop r line' ≡ drop r line)
+Grows line line' held r b =
+    (take r line' ≡ grown (take held line) b) × ((length line' ≡ 120) × (r ≤ 120)) × (held ≤ r) × (drop r line' ≡ drop r line)
 
 push_more : (line : List ℕ) (held b : ℕ) → length line ≡ 120 → held < 120 → Grows line (set line held b) held (held + 1) b
 unfolding grown
@@ -72,7 +73,8 @@ module _ (g : Gatherer) (piece : List ℕ) (g' : Gatherer) (i : ℕ) (x : Gather
         kept = x.kept;
       })
 
-  pub gather_step : (g'' : Gatherer) → i < length piece → (get_or piece i 0 ≡ 10 → ⊥) → Pushed g' (get_or piece i 0) g'' → Gathering g piece g'' (i + 1)
+  pub gather_step : (g'' : Gatherer) → i < length piece → (get_or piece i 0 ≡ 10 → ⊥) → Pushed g' (get_or piece i 0) g''
+      → Gathering g piece g'' (i + 1)
   unfolding gathered
   gather_step g'' h n p =
       let k : g'.held ≤ g''.held = p.more in

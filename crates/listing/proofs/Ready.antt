@@ -30,7 +30,8 @@ unfolding is_ready is_table
 ready_from line table out at r = rw (eq-eqb (length line) 120 r.line_length, eq-eqb (length table) 2760 r.table_len, le-leb (at + 569) (length out) r.room) refl
 
 -- as the code tests it
-pub tested : {b : Bool} (line : List ℕ) (table : List Float) (out : List ℕ) (at : ℕ) → b ≡ is_ready line table out at → b ≡ true → Ready line table out at
+pub tested : {b : Bool} (line : List ℕ) (table : List Float) (out : List ℕ) (at : ℕ) → b ≡ is_ready line table out at → b ≡ true
+    → Ready line table out at
 tested line table out at e t = ready line table out at (sym e ∙ t)
 
 pub is_there : {X : Type 0} (o : Option X) (P : Type 0) (Q : X → Type 0) → MatchOption o P Q → (P → ⊥) → IsSome o

@@ -108,7 +108,8 @@ module _ (s : S.Session) (line : List ℕ) (table : List Float) (out : List ℕ)
         (step_by_lem table out c at (rw q refl) (rw q (sym held_length)) (rw q (nothing out at (omega (arith, e.room))))))
 
     pub step_whole : (line'' : List ℕ) (table' : List Float) (out' : List ℕ) (w w' : Writer) (c : S.Session) (used : ℕ)
-        → stop ≡ Some used → w.out.now ≡ out → w.at ≡ at → LineListed s (take g'.held line'') table table' w w' c → line'' ≡ line' → out' ≡ w'.out.now
+        → stop ≡ Some used → w.out.now ≡ out → w.at ≡ at → LineListed s (take g'.held line'') table table' w w' c
+        → line'' ≡ line' → out' ≡ w'.out.now
         → StepDone s line piece table out at line'' table' out' (record { session = c; used = used; at = w'.at })
     unfolding after_line line_text
     step_whole line'' table' out' w w' c used q o f y l d =

@@ -15,7 +15,10 @@ use Rattle.listing.proofs.card.list_line.Goals as goal
 use Rattle.listing.proofs.card.list_line.Goals.{After-heading, in_default-via-in-None-1, in_default-via-in-Some+else-is_ok}
 
 pub rows-requires-clause-accepted : goal.rows-requires-clause-accepted
-rows-requires-clause-accepted c = accepted _ _ _ _ _ _ (line_run _ _ _ _ _ _ (search rules) c.run_entry-verdict.ensures.entry_done) c.in-Some.is (accepted_number _ (sym c.is_ok.ensures.value ∙ c.if-is_ok.true))
+rows-requires-clause-accepted c =
+    let run = line_run _ _ _ _ _ _ (search rules) c.run_entry-verdict.ensures.entry_done in
+    let v = accepted_number _ (sym c.is_ok.ensures.value ∙ c.if-is_ok.true) in
+    accepted _ _ _ _ _ _ run c.in-Some.is v
 
 -- what a line's listing owes after the heading: its rows, if it has any
 listed : (c : After-heading) (w : Writer) → let r = c.run_entry-verdict in
