@@ -11,6 +11,7 @@ use Rattle.cards.specs.Fields.{params_for}
 unfoldable pub card_of : Fields → Card
 card_of f =
     record {
+      kop = f.kop;
       kind = kind_of f.kop;
       first = f.first;
       last = f.last;

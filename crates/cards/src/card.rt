@@ -8,9 +8,11 @@ use antennas::Antenna;
 use lengths::Length;
 use parameters::{IoncapParams, Kind, Model};
 
-// `params` are the slots as `ioninit` reads them, `toaz` the off-azimuth in degrees.
+// `kop` is the type's number as it was handed in, `kind` what it stands for; `params` are the slots as
+// `ioninit` reads them, `toaz` the off-azimuth in degrees.
 #[derive(Clone, Copy)]
 pub struct Card {
+    pub kop: i32,
     pub kind: Kind,
     pub first: i32,
     pub last: i32,
@@ -28,6 +30,7 @@ pub fn read_card(fields: Fields) -> Card
     let kind = Kind::from(fields.kop);
     let params = parameters::ioninit(fields.kop, &fields.slots);
     Card {
+        kop: fields.kop,
         kind,
         first: fields.first,
         last: fields.last,

@@ -2,7 +2,7 @@
 // `step` and `finish` give, in turn.
 #![tactic(auto)]
 
-ghost use Rattle.std.specs.Prelude.{◌+◌, ◌≤◌};
+ghost use Rattle.std.specs.Prelude.{◌≡◌, ◌+◌, ◌≤◌, ◌⊎◌, IfOk};
 ghost use Rattle.listing.specs.Sizes.{most_text};
 
 use listing::{MOST_HELD, ROOM, Session, Stepped};
@@ -29,13 +29,16 @@ struct State {
     ghost room: { at + most_text ≤ 65536 },
 }
 
-fn all_written(session: Session) -> State {
+fn all_written(session: Session) -> State
+    ensures { result.at ≡ 0 }
+{
     State { session, at: 0 }
 }
 
 // So that the next step has room.
 fn flush_full(mut to: Stdout, stepped: Stepped, out: &[u8; PIECE]) -> Result<State>
     requires { stepped.at ≤ 65536 }
+    ensures { IfOk result (λ s. (s.at ≡ 0) ⊎ (s.at ≡ stepped.at)) }
 {
     let Stepped { session, at, .. } = stepped;
     if at <= PIECE - ROOM {

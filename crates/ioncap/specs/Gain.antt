@@ -64,7 +64,7 @@ unfoldable pub efficiency_value : Result Answer Refusal → Float
 efficiency_value (Ok answer) = answer.efficiency
 efficiency_value (Err refusal) = num 0 1
 
-unfoldable pub height_left : Result Answer Refusal → Float → Float
+unfoldable pub height_left : {E : Type 0} → Result Answer E → Float → Float
 height_left (Ok answer) height = answer.height
 height_left (Err refusal) height = height
 

@@ -90,7 +90,7 @@ pub fn gain_of(call: GainCall, height: f32) -> Result<Answer, Refusal>
 
 // A refusal keeps the height.
 #[tactic(auto, unfolding(crate::specs::Gain::height_left))]
-pub fn height_left(answer: Result<Answer, Refusal>, height: f32) -> f32
+pub fn height_left<E: Copy>(answer: Result<Answer, E>, height: f32) -> f32
     ensures { result ≡ height_left answer height }
 {
     answer.map_or(height, |a| a.height)
