@@ -54,18 +54,6 @@ pub(crate) fn element_waves(count: ElementCount, q: f32, h1: f32, dz: f32) -> Wa
 }
 
 impl Sums {
-    // With one more element, of cosine a and sine b, by the real part c and the imaginary part p of
-    // a reflection.
-    #[tactic(auto, unfolding(crate::specs::Elements::plus, single::proofs::Literals::round, single::proofs::Literals::of_bits))]
-    fn plus(self, a: f32, b: f32, c: f32, p: f32) -> Self
-        ensures { result ≡ plus self a b c p }
-    {
-        Sums {
-            real: self.real + (a * (1.0 + c) + p * b),
-            imag: self.imag + (b * (1.0 - c) + p * a),
-        }
-    }
-
     #[tactic(auto, unfolding(crate::specs::Elements::magnitude_of))]
     fn magnitude(self) -> f32
         ensures { result ≡ magnitude_of self }
@@ -75,23 +63,35 @@ impl Sums {
 }
 
 // With the real parts ch and cv and the imaginary parts ph and pv of the reflections. One loop for
-// both: two took longer than the Rust.
-#[tactic(auto, unfolding(crate::specs::Elements::sums_from, single::proofs::Literals::round, single::proofs::Literals::of_bits))]
+// both: two took longer than the Rust. A line for each sum: with a method for what an element adds, a
+// slip could only be planted in both fields at once, and one in a single sum was refused for its form
+// alone (tried).
+#[tactic(auto, unfolding(crate::specs::Elements::sums_from, crate::specs::Elements::plus, single::proofs::Literals::round, single::proofs::Literals::of_bits))]
 fn element_sums(count: ElementCount, waves: Waves, ch: f32, ph: f32, cv: f32, pv: f32) -> BothSums
     ensures { (result.h ≡ sums_of count.m waves ch ph) × (result.v ≡ sums_of count.m waves cv pv) }
 {
-    let mut h = Sums {
-        real: 0.0,
-        imag: 0.0,
-    };
-    let mut v = h;
+    let mut hreal = 0.0f32;
+    let mut himg = 0.0f32;
+    let mut vreal = 0.0f32;
+    let mut vimg = 0.0f32;
     for j in 0..count.m {
         let a = waves.ca[j];
         let b = waves.sa[j];
-        h = h.plus(a, b, ch, ph);
-        v = v.plus(a, b, cv, pv);
+        hreal = hreal + (a * (1.0 + ch) + ph * b);
+        himg = himg + (b * (1.0 - ch) + ph * a);
+        vreal = vreal + (a * (1.0 + cv) + pv * b);
+        vimg = vimg + (b * (1.0 - cv) + pv * a);
     }
-    BothSums { h, v }
+    BothSums {
+        h: Sums {
+            real: hreal,
+            imag: himg,
+        },
+        v: Sums {
+            real: vreal,
+            imag: vimg,
+        },
+    }
 }
 
 // `before_h` and `before_v` times the roots over the elements, with the ground's reflections.

@@ -38,6 +38,7 @@ fn xr_of(fac: f32, at2kl: Integrals, atkl: Integrals) -> f32
         / sin2kl
 }
 
+#[tactic(auto, unfolding(single::proofs::Literals::round, single::proofs::Literals::of_bits), using(crate::proofs::Refusal::none_answer, crate::proofs::Refusal::none_number, crate::proofs::Refusal::none_value))]
 pub fn dipole_row(fac: f32, hwave: f32) -> Option<Settled<Dipole>>
     ensures { IsAnswer unsettled_number (settled_value zero_dipole) zero_dipole 11 (dipole_row fac hwave) (dipole_settles fac) result }
 {

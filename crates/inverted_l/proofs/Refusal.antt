@@ -1,11 +1,34 @@
 -- Refusal 11 arises in a row of type 8 where, and only where, one of its two integrals is unsettled. Assumes nothing.
-use mathlib.Core.Path.{◌≡◌, ◌∙◌}
+use mathlib.Core.Path.{◌≡◌, ◌∙◌, refl}
 use lib.Ieee.{Float}
-use Rattle.integrals.specs.Settled.{settled_number, unsettled_number}
-use Rattle.integrals.proofs.Refusal.{map_number}
+use Rattle.std.specs.Prelude.{None, cond}
+use Rattle.single.specs.Answer.{IsAnswer}
+use Rattle.integrals.specs.Settled.{settled_number, unsettled_number, settled_value}
+use Rattle.integrals.specs.declared.settled.Settled.{Settled}
+use Rattle.single.specs.Single.{◌⊞◌}
+use Rattle.resistance.specs.Resistance.{resistance_of}
+use Rattle.inverted_l.specs.declared.inverted_l.InvertedL.{InvertedL}
+use Rattle.integrals.proofs.Refusal.{map_number, settled_answers}
 use Rattle.resistance.proofs.Refusal.{resistance_number_lem}
-use Rattle.inverted_l.specs.InvertedL.{inverted_l_row, inverted_l_settles}
+use Rattle.inverted_l.specs.InvertedL.{inverted_l_row, inverted_l_settles, zero_inverted_l}
 
 pub inverted_l_number_lem : (fac hwave : Float) → unsettled_number (inverted_l_row fac hwave) ≡ settled_number (inverted_l_settles hwave)
 unfolding inverted_l_row inverted_l_settles
 inverted_l_number_lem fac hwave = map_number _ _ ∙ resistance_number_lem _ _
+
+-- where what it is computed from is unsettled, it is unsettled
+unsettled : (fac hwave : Float) → None ≡ resistance_of (hwave ⊞ hwave) ((hwave ⊞ hwave) ⊞ (hwave ⊞ hwave))
+    → IsAnswer unsettled_number (settled_value zero_inverted_l) zero_inverted_l 11 (inverted_l_row fac hwave) (inverted_l_settles hwave) None
+unfolding inverted_l_row
+unsettled fac hwave e = settled_answers zero_inverted_l _ _ (inverted_l_number_lem fac hwave) None (rw (← e) refl)
+
+pub none_answer : (fac hwave : Float) → None ≡ resistance_of (hwave ⊞ hwave) ((hwave ⊞ hwave) ⊞ (hwave ⊞ hwave)) → None ≡ inverted_l_row fac hwave
+none_answer fac hwave e = (unsettled fac hwave e).0
+
+pub none_number : (fac hwave : Float) → None ≡ resistance_of (hwave ⊞ hwave) ((hwave ⊞ hwave) ⊞ (hwave ⊞ hwave))
+    → unsettled_number {A = Settled InvertedL} None ≡ cond (inverted_l_settles hwave) 0 11
+none_number fac hwave e = (unsettled fac hwave e).1
+
+pub none_value : (fac hwave : Float) → None ≡ resistance_of (hwave ⊞ hwave) ((hwave ⊞ hwave) ⊞ (hwave ⊞ hwave))
+    → settled_value zero_inverted_l None ≡ cond (inverted_l_settles hwave) (settled_value zero_inverted_l (inverted_l_row fac hwave)) zero_inverted_l
+none_value fac hwave e = (unsettled fac hwave e).2

@@ -39,6 +39,7 @@ fn eff8_of(hwave: f32) -> f32
     }
 }
 
+#[tactic(auto, using(crate::proofs::Refusal::none_answer, crate::proofs::Refusal::none_number, crate::proofs::Refusal::none_value))]
 pub fn inverted_l_row(fac: f32, hwave: f32) -> Option<Settled<InvertedL>>
     ensures { IsAnswer unsettled_number (settled_value zero_inverted_l) zero_inverted_l 11 (inverted_l_row fac hwave) (inverted_l_settles hwave) result }
 {

@@ -22,6 +22,7 @@ fn resistance_from(d: f32, z: f32, dw: Integrals, zw: Integrals) -> f32
 }
 
 // By the phases d and z, twice and four times the height's; any two are promised for.
+#[tactic(auto, using(crate::proofs::Refusal::none_answer, crate::proofs::Refusal::none_number, crate::proofs::Refusal::none_value))]
 pub fn resistance_of(d: f32, z: f32) -> Option<Settled<f32>>
     ensures { IsAnswer unsettled_number (settled_value (num 0 1)) (num 0 1) 11 (resistance_of d z) (pair_settles d z) result }
 {

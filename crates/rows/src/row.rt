@@ -63,6 +63,7 @@ fn eff8_for(pattern: Pattern) -> f32
 }
 
 // With the most turns of an integral's series.
+#[tactic(auto, using(crate::proofs::Unsettled::none_answer, crate::proofs::Unsettled::none_number, crate::proofs::Unsettled::none_value))]
 pub fn row_of(antenna: Antenna, fmc: f32) -> Option<Settled<Row>>
     ensures { IsAnswer unsettled_number (settled_value zero_row) zero_row 11 (row_of antenna fmc) (pattern_settles antenna (wave_of fmc)) result }
 {

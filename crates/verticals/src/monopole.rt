@@ -39,6 +39,7 @@ fn short_resistance(el1: f32, ra: f32) -> f32
     }
 }
 
+#[tactic(auto, unfolding(single::proofs::Literals::round, single::proofs::Literals::of_bits), using(crate::proofs::Refusal::none_answer, crate::proofs::Refusal::none_number, crate::proofs::Refusal::none_value))]
 pub fn monopole_row(leg: Length, wave: f32) -> Option<Settled<Monopole>>
     ensures { IsAnswer unsettled_number (settled_value zero_monopole) zero_monopole 11 (monopole_row leg wave) (monopole_settles leg wave) result }
 {
